@@ -4,3 +4,6 @@ pub mod Quiet
 pub mod ReadExamples
 pub mod Views
 pub mod Reaching
+pub mod Apart
+pub mod OwnCauses
+pub mod Events

@@ -202,7 +202,7 @@ module _ (board : Board) (h : List Event) (a : ℕ) (m : Message) where
 -- WHAT IT CHANGES OF ANOTHER AGENT'S SITUATION
 
 -- the notices of a change are one, of a new state that an agent gave
-record IsNotice (a d : ℕ) (s : Situation) (change : Option Change)
+pub record IsNotice (a d : ℕ) (s : Situation) (change : Option Change)
     (notices : List Message) : Type 0 where
   pub state : ℕ
   pub given : change ≡ Some (record { thing = State d; value = state; causer = a })
@@ -211,7 +211,7 @@ record IsNotice (a d : ℕ) (s : Situation) (change : Option Change)
   pub message : notices ≡ state_changed a d state ∷ []
 
 -- or there are none
-abbrev HasAtMostOne : ℕ → Situation → Option Change → List Message → Type 0
+abbrev pub HasAtMostOne : ℕ → Situation → Option Change → List Message → Type 0
 HasAtMostOne a s change notices = (notices ≡ []) ⊎ ((d : ℕ) × IsNotice a d s change notices)
 
 abbrev change_to : Thing → ℕ → ℕ → Change
@@ -246,7 +246,7 @@ module _ (a : ℕ) (s : Situation) where
   notice (State d) v c own =
       state-notice d v c own (v == s.value (State d)) (s.subscribed d) refl refl
 
-  notices : (room : Bool) (change : Option Change)
+  pub notices : (room : Bool) (change : Option Change)
       → ((it : Change) → change ≡ Some it → it.causer ≡ a)
       → HasAtMostOne a s change (if room then option_map_or (notice_in s) change [] else [])
   notices false change own = inl refl

@@ -1,6 +1,7 @@
--- What one agent's command is to another agent.
-use Rattle.std.specs.Prelude.{◌≡◌, ◌≢◌, ◌⊎◌, ℕ, true, List, [], ◌∷◌, ◌++◌, Option, unwrap_or, IfSome}
+-- What one agent's command is to another agent, and what each other event is to an agent.
+use Rattle.std.specs.Prelude.{◌≡◌, ◌≢◌, ◌⊎◌, ℕ, true, List, [], ◌∷◌, ◌++◌, map, Option, Some, unwrap_or, IfSome}
 use Rattle.std.specs.Option.{option_and_then, option_to_list}
+use Rattle.scmi_codec.specs.declared.message.Message.{Message}
 use Rattle.scmi_plan.specs.Board.{Board}
 use Rattle.scmi_plan.specs.declared.resource.Resource.{Resource}
 use Rattle.scmi_plan.specs.declared.scope.Scope.{Scope}
@@ -8,10 +9,10 @@ use Rattle.scmi_core.specs.declared.event.Event.{Event}
 use Rattle.scmi_core.specs.declared.pending_set.PendingSet.{PendingSet}
 use Rattle.scmi_core.specs.History.{deeds}
 use Rattle.scmi_core.specs.Laws.{may_after}
-use Rattle.scmi_core.specs.Outbox.{situation_after, state_changed}
-use Rattle.scmi_core.specs.Pending.{has_set_of}
+use Rattle.scmi_core.specs.Outbox.{failed_response_for, response_for, situation_after, state_changed}
+use Rattle.scmi_core.specs.Pending.{has_set_of, unwanted}
 use Rattle.scmi_core.specs.Situation.{Situation, has_room}
-use Rattle.scmi_core.specs.Value.{Change, State, Thing, value_in}
+use Rattle.scmi_core.specs.Value.{Change, State, Thing, completion, value_in}
 
 -- the situation of agent b after a history
 abbrev pub situation_of : Board → ℕ → List Event → Situation
@@ -69,3 +70,43 @@ pub record ReachesOnly (board : Board) (h : List Event) (a : ℕ) (s t : Situati
 abbrev pub Reaches : Board → List Event → Event → ℕ → ℕ → Type 0
 Reaches board h event a b =
     ReachesOnly board h a (situation_of board b h) (situation_of board b (h ++ event ∷ []))
+
+-- WHAT EACH OTHER EVENT IS TO AN AGENT
+
+-- what an agent may do, and of which domains it is notified, is as it was
+pub record KeepsRights (s t : Situation) : Type 0 where
+  pub allowed : (device : ℕ) (scope : Scope) → t.allowed device scope ≡ s.allowed device scope
+  pub subscribed : (d : ℕ) → t.subscribed d ≡ s.subscribed d
+
+-- the first pending set completes, as agent b in situation s sees it, which is then t
+pub record SeesCompletion (b : ℕ) (s t : Situation) : Type 0 where
+  pub set : PendingSet
+  -- that set is gone, and the others stay in order
+  pub pending : s.pending ≡ set ∷ t.pending
+  -- its domain or clock has the value that it set, and everything else the value that it had
+  pub value : (x : Thing) → t.value x ≡ value_with (Some (completion set)) x (s.value x)
+  pub rights : KeepsRights s t
+  -- the agent gets the delayed response, if the set is its own and it wants one
+  pub answered : List Message
+  pub answer : answered ≡ s.outbox ++ response_for b set
+  -- and then at most one notification, of the state that the set gave
+  pub outbox : (t.outbox ≡ answered)
+      ⊎ ((d : ℕ) × IsNotified set.agent d (record s { outbox = answered }) t)
+
+-- the first pending set ends as failed, as agent b in situation s sees it, which is then t
+pub record SeesFailure (b : ℕ) (s t : Situation) : Type 0 where
+  pub set : PendingSet
+  -- that set is gone, and the others stay in order
+  pub pending : s.pending ≡ set ∷ t.pending
+  -- no value is changed
+  pub value : (x : Thing) → t.value x ≡ s.value x
+  pub rights : KeepsRights s t
+  -- the agent gets the delayed response, if the set is its own and it wants one
+  pub outbox : t.outbox ≡ s.outbox ++ failed_response_for b set
+
+-- agent a restarts, as agent b in situation s sees it, which is then t
+pub record SeesRestart (board : Board) (a b : ℕ) (s t : Situation) : Type 0 where
+  -- no more than that agent a wants no delayed response to its pending sets
+  pub moved : t ≡ record s { pending = map (unwanted a) s.pending }
+  -- on which no answer depends
+  pub alike : AreSeenAlike board b s t

@@ -1,11 +1,11 @@
-//! What one agent's command is to another agent.
-ghost use Rattle.std.specs.Prelude.{◌≡◌, ◌≢◌, ℕ, List};
+//! What one agent's command is to another agent, and what each other event is to an agent.
+ghost use Rattle.std.specs.Prelude.{◌≡◌, ◌≢◌, ◌++◌, ◌∷◌, [], ℕ, List};
 ghost use Rattle.scmi_codec.specs.declared.frame.Frame.{Frame};
 ghost use Rattle.scmi_core.specs.History.{answer_to};
 ghost use Rattle.scmi_core.specs.Legal.{IsLegal};
 ghost use Rattle.scmi_core.specs.declared.event.Event.{Event};
-ghost use Rattle.scmi_core.specs.declared.event.Event.TheVariants.{Command};
-ghost use Rattle.scmi_laws.specs.Others.{Reaches, SeesTheSame};
+ghost use Rattle.scmi_core.specs.declared.event.Event.TheVariants.{Advance, AdvanceFailed, Command, CommandFailed, Restarted, Sent};
+ghost use Rattle.scmi_laws.specs.Others.{Reaches, SeesCompletion, SeesFailure, SeesRestart, SeesTheSame, situation_of};
 ghost use Rattle.scmi_plan.specs.Board.{Board};
 
 /// All that one agent's command is to another agent, in every legal history of every board, whoever
@@ -21,6 +21,34 @@ pub fn every_other_agent()
         → SeesTheSame board b h k → answer_to board b frame h ≡ answer_to board b frame k }
     ensures reaches { (board : Board) (h : List Event) (a b : ℕ) (frame : Frame)
         → IsLegal board h → a ≢ b → Reaches board h (Command a frame) a b }
+{
+    // Nothing to do: the clauses hold of every history.
+}
+
+/// All that each event other than a command is to an agent, in every legal history of every board,
+/// whoever made it. It does nothing: its clauses are the laws.
+///
+/// A completion gives one value, takes one pending set, the first, and makes no more than the
+/// delayed response to its own agent and one notification. A set that ends as failed changes no
+/// value, and makes no more than that response. A posting to another agent, and a command that
+/// failed, whoever asked it, leave an agent's situation as it was. A restart of another agent ends
+/// no set: it only drops that agent's wish for delayed responses, on which no answer depends.
+pub fn every_event()
+    ensures advance { (board : Board) (h : List Event) (b : ℕ)
+        → IsLegal board (h ++ Advance ∷ [])
+        → SeesCompletion b (situation_of board b h) (situation_of board b (h ++ Advance ∷ [])) }
+    ensures advance_failed { (board : Board) (h : List Event) (b : ℕ)
+        → IsLegal board (h ++ AdvanceFailed ∷ [])
+        → SeesFailure b (situation_of board b h)
+        (situation_of board b (h ++ AdvanceFailed ∷ [])) }
+    ensures sent { (board : Board) (h : List Event) (a b : ℕ) → IsLegal board h → a ≢ b
+        → situation_of board b (h ++ Sent a ∷ []) ≡ situation_of board b h }
+    ensures command_failed { (board : Board) (h : List Event) (a b : ℕ) (frame : Frame)
+        → IsLegal board h
+        → situation_of board b (h ++ CommandFailed a frame ∷ []) ≡ situation_of board b h }
+    ensures restarted { (board : Board) (h : List Event) (a b : ℕ) → IsLegal board h → a ≢ b
+        → SeesRestart board a b (situation_of board b h)
+        (situation_of board b (h ++ Restarted a ∷ [])) }
 {
     // Nothing to do: the clauses hold of every history.
 }

@@ -1,0 +1,250 @@
+-- What each event other than a command changes of an agent's situation.
+use Rattle.std.proofs.Common.{◌≡◌, ◌≢◌, ◌⊎◌, inl, inr, ℕ, suc, ◌+◌, ◌<◌, ◌==◌, ◌&&◌, ◌||◌, nat_lt, Bool, true, false, List, [], ◌∷◌, ◌++◌, length, map, drop, Some, None, unwrap_or, refl, sym, ap, ◌∙◌, subst, arith, if◌then◌else◌}
+use Rattle.std.specs.Option.{is_some, option_and_then, option_or}
+use Rattle.std.proofs.lemmas.List.{append_assoc, append-nil}
+use Rattle.std.proofs.lemmas.Bool.{eq-eqb, ne_eqb}
+use Rattle.scmi_codec.specs.declared.frame.Frame.{Frame}
+use Rattle.scmi_codec.specs.declared.frame.Frame.TheVariants.{Good, Malformed}
+use Rattle.scmi_codec.specs.declared.message.Message.{Message}
+use Rattle.scmi_plan.specs.Board.{Board, channel_of}
+use Rattle.scmi_plan.specs.declared.limits.TheConstants.{PENDING_SETS}
+use Rattle.scmi_plan.specs.declared.resource.Resource.{Resource}
+use Rattle.scmi_core.specs.declared.event.Event.{Event}
+use Rattle.scmi_core.specs.declared.event.Event.TheVariants.{Advance, AdvanceFailed, CommandFailed, Restarted, Sent}
+use Rattle.scmi_core.specs.declared.outboxes.TheConstants.{OUTBOX_ROOM}
+use Rattle.scmi_core.specs.declared.pending_set.PendingSet.{PendingSet}
+use Rattle.scmi_core.specs.declared.pending_set.Setting.{Setting}
+use Rattle.scmi_core.specs.declared.pending_set.Setting.TheVariants as setting
+use Rattle.scmi_core.specs.Deed.{Deed}
+use Rattle.scmi_core.specs.Laws.{is_refused}
+use Rattle.scmi_core.specs.Legal.{IsLegal}
+use Rattle.scmi_core.specs.Outbox.{failed_response_for, notice_in, response_for, state_changed}
+use Rattle.scmi_core.specs.Pending.{has_set_of, is_set_by, sets_by, unwanted}
+use Rattle.scmi_core.specs.Situation.{Situation}
+use Rattle.scmi_core.specs.Value.{State, completion, set_to_change, value_in}
+use Rattle.scmi_core.proofs.Following.{next}
+use Rattle.scmi_core.proofs.Isolation.{refused}
+use Rattle.scmi_core.proofs.Legal.{IsLegal-front, IsLegal-last}
+use Rattle.scmi_core.proofs.Situations.{nothing-made}
+use Rattle.scmi_laws.specs.Others.{IsNotified, SeesCompletion, SeesFailure, SeesRestart, AreSeenAlike, situation_of}
+use Rattle.scmi_laws.proofs.Added.{situation-more}
+use Rattle.scmi_laws.proofs.Reaching.{HasAtMostOne, notices}
+
+-- A SET ENDS
+
+abbrev ended : Event → Deed
+ended event = record { event = event; reply = [] }
+
+causer-is : (a : ℕ) (set : Setting) → (set_to_change a set).causer ≡ a
+causer-is a (setting.State d state) = refl
+causer-is a (setting.Rate c rate) = refl
+
+-- the first of these sets completes
+module _ (board : Board) (b : ℕ) (s : Situation) (p : PendingSet) (ps : List PendingSet) where
+  abbrev stood : Situation
+  stood = record s { pending = p ∷ ps }
+
+  abbrev after : Situation
+  after = next board b stood (ended Advance)
+
+  abbrev answered : List Message
+  answered = s.outbox ++ response_for b p
+
+  abbrev notices_made : List Message
+  notices_made =
+      let load = length s.outbox + length (response_for b p) + length (sets_by b ps) in
+      if nat_lt load OUTBOX_ROOM then notice_in stood (completion p) else []
+
+  outbox-is : after.outbox ≡ answered ++ notices_made
+  outbox-is = sym (append_assoc s.outbox (response_for b p) notices_made)
+
+  at-most-one : HasAtMostOne p.agent stood (Some (completion p)) notices_made
+  at-most-one =
+      let load = length s.outbox + length (response_for b p) + length (sets_by b ps) in
+      notices p.agent stood (nat_lt load OUTBOX_ROOM) (Some (completion p))
+      (λ it is.
+      sym (ap (λ o. (unwrap_or o it).causer) is) ∙ causer-is p.agent p.setting)
+
+  outbox-moved : HasAtMostOne p.agent stood (Some (completion p)) notices_made
+      → (after.outbox ≡ answered)
+      ⊎ ((d : ℕ) × IsNotified p.agent d (record stood { outbox = answered }) after)
+  outbox-moved (inl none) =
+      inl (outbox-is ∙ ap (λ ms. answered ++ ms) none ∙ append-nil answered)
+  outbox-moved (inr (d, is)) =
+      let old = s.value (State d) in
+      let state : after.value (State d) ≡ is.state
+      = ap (λ it. unwrap_or (option_and_then (value_in (State d)) it) old) is.given
+      ∙ ap (λ same. unwrap_or (if same then Some is.state else None) old) (eq-eqb d d refl) in
+      inr (
+        d,
+        record {
+          subscribed = is.subscribed;
+          new = λ same. is.new (sym state ∙ same);
+          message =
+              outbox-is
+              ∙ ap (λ ms. answered ++ ms) is.message
+              ∙ ap (λ v. answered ++ state_changed p.agent d v ∷ []) (sym state);
+        },
+      )
+
+  completes : SeesCompletion b stood after
+  completes = record {
+    set = p;
+    pending = refl;
+    value = λ x. refl;
+    rights = record { allowed = λ d scope. refl; subscribed = λ d. refl };
+    answered = answered;
+    answer = refl;
+    outbox = outbox-moved at-most-one;
+  }
+
+  -- or it fails
+  fails : SeesFailure b stood (next board b stood (ended AdvanceFailed))
+  fails = record {
+    set = p;
+    pending = refl;
+    value = λ x. refl;
+    rights = record { allowed = λ d scope. refl; subscribed = λ d. refl };
+    outbox =
+        ap (λ ms. s.outbox ++ (failed_response_for b p ++ ms)) (nothing-made b stood ps)
+        ∙ ap (λ ms. s.outbox ++ ms) (append-nil (failed_response_for b p));
+  }
+
+pub advance : (board : Board) (h : List Event) (b : ℕ) → IsLegal board (h ++ Advance ∷ [])
+    → SeesCompletion b (situation_of board b h) (situation_of board b (h ++ Advance ∷ []))
+advance board h b legal =
+    subst (SeesCompletion b (situation_of board b h))
+    (sym (situation-more board h Advance (IsLegal-front board h Advance legal) b))
+    (by (situation_of board b h).pending (IsLegal-last board h Advance legal))
+  where
+    by : (pending : List PendingSet) → 0 < length pending
+        → SeesCompletion b (record (situation_of board b h) { pending = pending })
+        (next board b (record (situation_of board b h) { pending = pending }) (ended Advance))
+    by [] waits = absurd (omega arith)
+    by (p ∷ ps) waits = completes board b (situation_of board b h) p ps
+
+pub advance_failed : (board : Board) (h : List Event) (b : ℕ)
+    → IsLegal board (h ++ AdvanceFailed ∷ [])
+    → SeesFailure b (situation_of board b h) (situation_of board b (h ++ AdvanceFailed ∷ []))
+advance_failed board h b legal =
+    subst (SeesFailure b (situation_of board b h))
+    (sym (situation-more board h AdvanceFailed (IsLegal-front board h AdvanceFailed legal) b))
+    (by (situation_of board b h).pending (IsLegal-last board h AdvanceFailed legal))
+  where
+    by : (pending : List PendingSet) → 0 < length pending
+        → SeesFailure b (record (situation_of board b h) { pending = pending })
+        (next board b (record (situation_of board b h) { pending = pending }) (ended AdvanceFailed))
+    by [] waits = absurd (omega arith)
+    by (p ∷ ps) waits = fails board b (situation_of board b h) p ps
+
+-- A POSTING TO ANOTHER AGENT
+
+module _ (board : Board) (a b : ℕ) (s : Situation) (differ : b ≢ a) where
+  same-outbox : (next board b s (ended (Sent a))).outbox ≡ s.outbox
+  same-outbox =
+      (λ i.
+      if ne_eqb b a differ i then drop 1 s.outbox
+      else s.outbox ++ nothing-made b s (s.pending ++ []) i)
+      ∙ append-nil s.outbox
+
+  posted-same : next board b s (ended (Sent a)) ≡ s
+  posted-same = λ i.
+      record {
+        value = s.value;
+        allowed = s.allowed;
+        subscribed = s.subscribed;
+        pending = append-nil s.pending i;
+        outbox = same-outbox i;
+      }
+
+pub sent : (board : Board) (h : List Event) (a b : ℕ) → IsLegal board h → a ≢ b
+    → situation_of board b (h ++ Sent a ∷ []) ≡ situation_of board b h
+sent board h a b legal differ =
+    situation-more board h (Sent a) legal b
+    ∙ posted-same board a b (situation_of board b h) (λ same. differ (sym same))
+
+-- A COMMAND THAT FAILED
+
+failed-refused : (board : Board) (h : List Event) (a : ℕ) (frame : Frame)
+    → is_refused board a h (CommandFailed a frame) ≡ true
+failed-refused board h a (Good m) =
+    ap (λ own. is_some (if own then Some (Good m) else None) && true) (eq-eqb a a refl)
+failed-refused board h a (Malformed len header) =
+    ap (λ own. is_some (if own then Some (Malformed len header) else None) && true)
+    (eq-eqb a a refl)
+
+pub command_failed : (board : Board) (h : List Event) (a b : ℕ) (frame : Frame) → IsLegal board h
+    → situation_of board b (h ++ CommandFailed a frame ∷ []) ≡ situation_of board b h
+command_failed board h a b frame legal =
+    (refused board h a (CommandFailed a frame) legal (failed-refused board h a frame)).situations b
+
+-- A RESTART OF ANOTHER AGENT
+
+-- sets that are unwanted are of the same things and agents
+busy-same : (a : ℕ) (r : Resource) (ps : List PendingSet)
+    → has_set_of r ps ≡ has_set_of r (map (unwanted a) ps)
+busy-same a r [] = refl
+busy-same a r (p ∷ ps) = ap (λ more. is_set_by r p.setting || more) (busy-same a r ps)
+
+count-same : (a : ℕ) (ps : List PendingSet) → length ps ≡ length (map (unwanted a) ps)
+count-same a [] = refl
+count-same a (p ∷ ps) = ap suc (count-same a ps)
+
+own-same : (a b : ℕ) (ps : List PendingSet)
+    → length (sets_by b ps) ≡ length (sets_by b (map (unwanted a) ps))
+own-same a b [] = refl
+own-same a b (p ∷ ps) = by (own-same a b ps) (p.agent == b)
+  where
+    by : length (sets_by b ps) ≡ length (sets_by b (map (unwanted a) ps)) → (own : Bool)
+        → length (if own then p ∷ sets_by b ps else sets_by b ps)
+        ≡ length (if own then unwanted a p ∷ sets_by b (map (unwanted a) ps)
+        else sets_by b (map (unwanted a) ps))
+    by same true = ap suc same
+    by same false = same
+
+module _ (board : Board) (a b : ℕ) (s : Situation) (differ : a ≢ b) where
+  abbrev left : List PendingSet
+  left = map (unwanted a) s.pending
+
+  abbrev restarted_to : Situation
+  restarted_to = record s { pending = left }
+
+  seen-alike : AreSeenAlike board b s restarted_to
+  seen-alike = record {
+    value = λ x. refl;
+    allowed = λ device scope. refl;
+    busy = λ r. busy-same a r s.pending;
+    room = λ i.
+        let own = own-same a b s.pending i in
+        nat_lt (count-same a s.pending i) PENDING_SETS
+        && (nat_lt own (channel_of board b).share && nat_lt (length s.outbox + own) OUTBOX_ROOM);
+  }
+
+  dropped : (next board b s (ended (Restarted a))).outbox ≡ s.outbox
+  dropped =
+      (λ i.
+      (if ne_eqb b a (λ same. differ (sym same)) i then [] else s.outbox)
+      ++ nothing-made b s (left ++ []) i)
+      ∙ append-nil s.outbox
+
+  restarts : next board b s (ended (Restarted a)) ≡ restarted_to
+  restarts = λ i.
+      record {
+        value = s.value;
+        allowed = s.allowed;
+        subscribed = λ d.
+            unwrap_or (option_or (if ne_eqb a b differ i then Some false else None) None)
+            (s.subscribed d);
+        pending = append-nil left i;
+        outbox = dropped i;
+      }
+
+pub restarted : (board : Board) (h : List Event) (a b : ℕ) → IsLegal board h → a ≢ b
+    → SeesRestart board a b (situation_of board b h) (situation_of board b (h ++ Restarted a ∷ []))
+restarted board h a b legal differ =
+    let s = situation_of board b h in
+    let is = situation-more board h (Restarted a) legal b ∙ restarts board a b s differ in
+    record {
+      moved = is;
+      alike = subst (AreSeenAlike board b s) (sym is) (seen-alike board a b s differ);
+    }

@@ -1,0 +1,415 @@
+-- Each change of a legal history came of a command of its own.
+use Rattle.std.proofs.Common.{◌≡◌, ℕ, ◌<◌, ◌≤◌, Bool, true, false, List, [], ◌∷◌, ◌++◌, length, map, drop, slice_get, Option, Some, None, option_map, refl, sym, ap, ◌∙◌, subst, arith, if◌then◌else◌}
+use Rattle.std.specs.List.{AllZip}
+use Rattle.std.specs.Option.{option_and_then, option_or, option_to_list}
+use Rattle.std.proofs.lemmas.List.{append_assoc, append-nil, length-append}
+use Rattle.scmi_codec.specs.Command.{command_of}
+use Rattle.scmi_codec.specs.Header.{HeaderFields}
+use Rattle.scmi_codec.specs.Reply.{bit_0}
+use Rattle.scmi_codec.specs.declared.frame.Frame.TheVariants.{Good, Malformed}
+use Rattle.scmi_codec.specs.declared.message.Message.{Message}
+use Rattle.scmi_codec.specs.declared.command.Command as codec
+use Rattle.scmi_codec.specs.declared.command.Command.TheVariants.{Base, Power, Clock}
+use Rattle.scmi_codec.specs.declared.power_command.PowerCommand.{PowerCommand}
+use Rattle.scmi_codec.specs.declared.power_command.PowerCommand.TheVariants as power
+use Rattle.scmi_codec.specs.declared.clock_command.ClockCommand.{ClockCommand}
+use Rattle.scmi_codec.specs.declared.clock_command.ClockCommand.TheVariants as clock
+use Rattle.scmi_plan.specs.Agent.{IsAgent}
+use Rattle.scmi_plan.specs.Board.{Board}
+use Rattle.scmi_clock.specs.ClockTable.{set_rate}
+use Rattle.scmi_clock.specs.SetFlags.{is_asynchronous, is_response_wanted}
+use Rattle.scmi_core.specs.declared.event.Event.{Event}
+use Rattle.scmi_core.specs.declared.event.Event.TheVariants.{Command, Advance, Sent, CommandFailed, AdvanceFailed, Restarted}
+use Rattle.scmi_core.specs.declared.pending_set.PendingSet.{PendingSet}
+use Rattle.scmi_core.specs.Deed.{Deed, Success, fold_with_prefix, success_at, success_of}
+use Rattle.scmi_core.specs.History.{deed_after, deeds}
+use Rattle.scmi_core.specs.Laws.{change_asked, may_after}
+use Rattle.scmi_core.specs.Legal.{CanFollow, IsLegal}
+use Rattle.scmi_core.specs.Outbox.{situation_after}
+use Rattle.scmi_core.specs.Pending.{acceptance, pending_sets, rate_set, state_set, unwanted}
+use Rattle.scmi_core.specs.Reply.{fits_channel, reply_words}
+use Rattle.scmi_core.specs.Value.{Change, change_now, changes, completion}
+use Rattle.scmi_core.proofs.Causes.{IsOwn, asked-own}
+use Rattle.scmi_core.proofs.Following.{change_in, pending-next, pending_next}
+use Rattle.scmi_core.proofs.Legal.{Grown, IsLegal-front, IsLegal-last, advances_le-accepted, deeds-push, empty, grow, grown}
+use Rattle.scmi_laws.specs.Causes.{CameOf, HasOwnCauses}
+use Rattle.scmi_laws.proofs.Added.{changed-more}
+use Rattle.scmi_laws.proofs.Apart.{AllBelow, Apart, all-pairs, apart-front, apart-insert, apart-push, apart-remove, below-more, each-insert, each-push, each-remove, zip-append, zip-weaker}
+
+-- A SUCCESS CHANGES AT ONCE OR IS ACCEPTED FOR LATER, NEVER BOTH
+
+module _ (board : Board) (a : ℕ) (header : HeaderFields) (p : PendingSet) where
+  abbrev success : codec.Command → Success
+  success c = record { caller = a; header = header; command = c }
+
+  -- what is set now is not set later
+  not_now : {A B X Y : Type 0} (f : A → X) (x : A) (g : B → Y) (b : B) (y : Y) (later : Bool)
+      → option_map g (if later then Some b else None) ≡ Some y
+      → option_map f (if later then None else Some x) ≡ None
+  not_now f x g b y true is = refl
+  not_now f x g b y false is = absurd (cc)
+
+  power-later : (c : PowerCommand) → acceptance board (success (Power c)) ≡ Some p
+      → change_now board (success (Power c)) ≡ None
+  power-later power.Version is = refl
+  power-later power.Attributes is = refl
+  power-later (power.MessageAttributes message) is = refl
+  power-later (power.DomainAttributes d) is = refl
+  power-later (power.Get d) is = refl
+  power-later (power.Notify d enable) is = refl
+  power-later (power.Set flags d state) is =
+      let to : ℕ × ℕ = (d, state) in
+      not_now _ to (state_set a header) to p (bit_0 flags) is
+
+  clock-later : (c : ClockCommand) → acceptance board (success (Clock c)) ≡ Some p
+      → change_now board (success (Clock c)) ≡ None
+  clock-later clock.Version is = refl
+  clock-later clock.Attributes is = refl
+  clock-later (clock.MessageAttributes message) is = refl
+  clock-later (clock.ClockAttributes c) is = refl
+  clock-later (clock.Describe c index) is = refl
+  clock-later (clock.GetRate c) is = refl
+  clock-later (clock.Config c attributes) is = absurd (cc)
+  clock-later (clock.SetRate flags c rate) is =
+      let to = set_rate board flags c rate in
+      let wanted = is_response_wanted flags in
+      ap (λ now. option_or now None)
+      (not_now _ (c, to) (rate_set a header) (c, to, wanted) p (is_asynchronous flags) is)
+
+  later : (c : codec.Command) → acceptance board (success c) ≡ Some p
+      → change_now board (success c) ≡ None
+  later (Base c) is = refl
+  later (Power c) is = power-later c is
+  later (Clock c) is = clock-later c is
+
+later-not_now : (board : Board) (o : Option Success) (p : PendingSet)
+    → option_and_then (acceptance board) o ≡ Some p → option_and_then (change_now board) o ≡ None
+later-not_now board None p is = refl
+later-not_now board (Some s) p is = later board s.caller s.header p s.command is
+
+later-asked : (board : Board) (o : Option Success) (p : PendingSet)
+    → option_and_then (acceptance board) o ≡ Some p
+    → option_and_then (change_asked board) o ≡ Some (completion p)
+later-asked board None p is = absurd (cc)
+later-asked board (Some s) p is =
+    ap (λ now. option_or now (option_map completion (acceptance board s)))
+    (later board s.caller s.header p s.command is)
+    ∙ ap (option_map completion) is
+
+now-asked : (board : Board) (o : Option Success) (change : Change)
+    → option_and_then (change_now board) o ≡ Some change
+    → option_and_then (change_asked board) o ≡ Some change
+now-asked board None change is = absurd (cc)
+now-asked board (Some s) change is =
+    ap (λ now. option_or now (option_map completion (acceptance board s))) is
+
+-- THE COMMAND AT A PLACE
+
+-- one event more leaves a change the command that it came of
+came-kept : (board : Board) (h : List Event) (e : Event) (n : ℕ) (change : Change)
+    → CameOf board h n change → CameOf board (h ++ e ∷ []) n change
+came-kept board h e n change had =
+    let was = had.cause in
+    record {
+      cause = record {
+        before = was.before;
+        message = was.message;
+        after = was.after ++ e ∷ [];
+        place =
+            ap (λ xs. xs ++ e ∷ []) was.place
+            ∙ append_assoc was.before (Command change.causer (Good was.message) ∷ was.after)
+            (e ∷ []);
+        agent = was.agent;
+        asked = was.asked;
+        allowed = was.allowed;
+        kept = was.kept;
+      };
+      place_is = had.place_is;
+    }
+
+-- the last command is that of what it asked for
+module _ (board : Board) (h : List Event) (a : ℕ) (m : Message) (change : Change) where
+  abbrev success_there : ℕ → Option Success
+  success_there x =
+      success_at (Command x (Good m)) (deed_after board (deeds board h) (Command x (Good m))).reply
+
+  own : (fits : Bool)
+      → option_and_then (change_asked board)
+      (success_of a m.header (command_of m)
+      (if fits then reply_words board a (situation_after board a (deeds board h)) (command_of m)
+      else [])) ≡ Some change
+      → IsOwn board a (situation_after board a (deeds board h)) change
+  own true asked =
+      asked-own board a m.header (situation_after board a (deeds board h)) change (command_of m)
+      asked
+  own false asked = absurd (cc)
+
+  came : IsAgent (length board.agents) a
+      → option_and_then (change_asked board) (success_there a) ≡ Some change
+      → CameOf board (h ++ Command a (Good m) ∷ []) (length h) change
+  came agent asked =
+      let is = own (fits_channel board a m) asked in
+      let back = sym is.causer in
+      record {
+        cause = record {
+          before = h;
+          message = m;
+          after = [];
+          place = ap (λ x. h ++ Command x (Good m) ∷ []) back;
+          agent = subst (IsAgent (length board.agents)) back agent;
+          asked =
+              subst (λ x. option_and_then (change_asked board) (success_there x) ≡ Some change)
+              back asked;
+          allowed = subst (λ x. may_after board h x change.thing ≡ true) back is.allowed;
+          kept = is.kept;
+        };
+        place_is = refl;
+      }
+
+-- PLACES FOR ALL CHANGES AND ALL PENDING SETS
+
+-- these changes, and those that these sets are to make, came of commands at different places
+record HasPlaces (board : Board) (h : List Event)
+    (cs : List Change) (ps : List PendingSet) : Type 0 where
+  pub places : List ℕ
+  pub waiting : List ℕ
+  pub changed : AllZip (CameOf board h) places cs
+  pub pending : AllZip (λ n p. CameOf board h n (completion p)) waiting ps
+  pub apart : Apart (places ++ waiting)
+  pub below : AllBelow (length h) (places ++ waiting)
+
+-- the first pending set ends
+module _ (board : Board) (h : List Event) (cs : List Change) where
+  completed : (p : PendingSet) (ps : List PendingSet) → HasPlaces board h cs (p ∷ ps)
+      → HasPlaces board h (cs ++ completion p ∷ []) ps
+  completed p ps had = by had.waiting had.pending had.apart had.below
+    where
+      by : (waiting : List ℕ) → AllZip (λ n p. CameOf board h n (completion p)) waiting (p ∷ ps)
+          → Apart (had.places ++ waiting) → AllBelow (length h) (had.places ++ waiting)
+          → HasPlaces board h (cs ++ completion p ∷ []) ps
+      by [] pending apart below = absurd pending
+      by (n ∷ ns) pending apart below =
+          let same = sym (append_assoc had.places (n ∷ []) ns) in
+          record {
+            places = had.places ++ n ∷ [];
+            waiting = ns;
+            changed =
+                zip-append (CameOf board h) had.places (n ∷ []) cs (completion p ∷ []) had.changed
+                (pending.0, tt);
+            pending = pending.1;
+            apart = subst Apart same apart;
+            below = subst (AllBelow (length h)) same below;
+          }
+
+  first : (ps : List PendingSet) → HasPlaces board h cs ps
+      → HasPlaces board h
+      (cs ++ option_to_list (option_or (option_map completion (slice_get ps 0)) None)) (drop 1 ps)
+  first [] had = subst (λ it. HasPlaces board h it []) (sym (append-nil cs)) had
+  first (p ∷ ps) had = completed p ps had
+
+  failed : (ps : List PendingSet) → HasPlaces board h cs ps
+      → HasPlaces board h cs (drop 1 ps)
+  failed [] had = had
+  failed (p ∷ ps) had = by had.waiting had.pending had.apart had.below
+    where
+      by : (waiting : List ℕ) → AllZip (λ n p. CameOf board h n (completion p)) waiting (p ∷ ps)
+          → Apart (had.places ++ waiting) → AllBelow (length h) (had.places ++ waiting)
+          → HasPlaces board h cs ps
+      by [] pending apart below = absurd pending
+      by (n ∷ ns) pending apart below = record {
+        places = had.places;
+        waiting = ns;
+        changed = had.changed;
+        pending = pending.1;
+        apart = apart-remove had.places ns n apart;
+        below = each-remove (λ k. k < length h) had.places ns n below;
+      }
+
+  -- an agent that restarts keeps its sets
+  restarted : (a : ℕ) (ps : List PendingSet) → HasPlaces board h cs ps
+      → HasPlaces board h cs (map (unwanted a) ps)
+  restarted a ps had = record {
+    places = had.places;
+    waiting = had.waiting;
+    changed = had.changed;
+    pending = by had.waiting ps had.pending;
+    apart = had.apart;
+    below = had.below;
+  }
+    where
+      by : (ns : List ℕ) (ps : List PendingSet)
+          → AllZip (λ n p. CameOf board h n (completion p)) ns ps
+          → AllZip (λ n p. CameOf board h n (completion p)) ns (map (unwanted a) ps)
+      by [] [] all = tt
+      by [] (p ∷ ps) all = absurd all
+      by (n ∷ ns) [] all = absurd all
+      by (n ∷ ns) (p ∷ ps) all = (all.0, by ns ps all.1)
+
+-- one event more
+module _ (board : Board) (h : List Event) (e : Event) (cs : List Change) (ps : List PendingSet)
+    (had : HasPlaces board h cs ps) where
+  abbrev h' : List Event
+  h' = h ++ e ∷ []
+
+  longer : length h < length h'
+  longer = omega (arith, length-append h (e ∷ []))
+
+  changed-kept : AllZip (CameOf board h') had.places cs
+  changed-kept =
+      zip-weaker (CameOf board h) (CameOf board h') (came-kept board h e) had.places cs had.changed
+
+  pending-kept : AllZip (λ n p. CameOf board h' n (completion p)) had.waiting ps
+  pending-kept =
+      zip-weaker (λ n p. CameOf board h n (completion p)) (λ n p. CameOf board h' n (completion p))
+      (λ n p. came-kept board h e n (completion p)) had.waiting ps had.pending
+
+  below-kept : AllBelow (length h') (had.places ++ had.waiting)
+  below-kept =
+      let more : length h ≤ length h' = omega (arith, longer) in
+      below-more (length h) (length h') more (had.places ++ had.waiting) had.below
+
+  kept : HasPlaces board h' cs ps
+  kept = record {
+    places = had.places;
+    waiting = had.waiting;
+    changed = changed-kept;
+    pending = pending-kept;
+    apart = had.apart;
+    below = below-kept;
+  }
+
+  -- it changes something at once
+  changed-now : (c : Change) → CameOf board h' (length h) c → HasPlaces board h' (cs ++ c ∷ []) ps
+  changed-now c is =
+      let n = length h in
+      let same = sym (append_assoc had.places (n ∷ []) had.waiting) in
+      record {
+        places = had.places ++ n ∷ [];
+        waiting = had.waiting;
+        changed =
+            zip-append (CameOf board h') had.places (n ∷ []) cs (c ∷ []) changed-kept (is, tt);
+        pending = pending-kept;
+        apart = subst Apart same (apart-insert had.places had.waiting n had.apart had.below);
+        below =
+            subst (AllBelow (length h')) same
+            (each-insert (λ k. k < length h') had.places had.waiting n below-kept longer);
+      }
+
+  -- it leaves a set pending
+  accepted : (p : PendingSet) → CameOf board h' (length h) (completion p)
+      → HasPlaces board h' cs (ps ++ p ∷ [])
+  accepted p is =
+      let n = length h in
+      let same = append_assoc had.places had.waiting (n ∷ []) in
+      record {
+        places = had.places;
+        waiting = had.waiting ++ n ∷ [];
+        changed = changed-kept;
+        pending =
+            zip-append (λ n p. CameOf board h' n (completion p)) had.waiting (n ∷ []) ps (p ∷ [])
+            pending-kept (is, tt);
+        apart = subst Apart same (apart-push (had.places ++ had.waiting) n had.apart had.below);
+        below =
+            subst (AllBelow (length h')) same
+            (each-push (λ k. k < length h') (had.places ++ had.waiting) n below-kept longer);
+      }
+
+  -- one or the other, or neither
+  one-more : (change : Option Change) (set : Option PendingSet)
+      → ((p : PendingSet) → set ≡ Some p → change ≡ None)
+      → ((c : Change) → change ≡ Some c → CameOf board h' (length h) c)
+      → ((p : PendingSet) → set ≡ Some p → CameOf board h' (length h) (completion p))
+      → HasPlaces board h' (cs ++ option_to_list change) (ps ++ option_to_list set)
+  one-more None None one now later =
+      subst (λ it. HasPlaces board h' it (ps ++ [])) (sym (append-nil cs))
+      (subst (λ it. HasPlaces board h' cs it) (sym (append-nil ps)) kept)
+  one-more (Some c) None one now later =
+      subst (λ it. HasPlaces board h' (cs ++ c ∷ []) it) (sym (append-nil ps))
+      (changed-now c (now c refl))
+  one-more None (Some p) one now later =
+      subst (λ it. HasPlaces board h' it (ps ++ p ∷ [])) (sym (append-nil cs))
+      (accepted p (later p refl))
+  one-more (Some c) (Some p) one now later = let no = one p refl in absurd (cc)
+
+-- OF EVERY LEGAL HISTORY
+
+abbrev IsPlaced : Board → List Event → Type 0
+IsPlaced board h = HasPlaces board h (changes board (deeds board h)) (pending_sets board (deeds board h))
+
+module _ (board : Board) (h : List Event) (legal : IsLegal board h) (had : IsPlaced board h) where
+  abbrev ds : List Deed
+  ds = deeds board h
+
+  abbrev ps : List PendingSet
+  ps = pending_sets board ds
+
+  abbrev cs : List Change
+  cs = changes board ds
+
+  onward : (e : Event)
+      → HasPlaces board (h ++ e ∷ [])
+      (cs ++ option_to_list (change_in board ps (deed_after board ds e)))
+      (pending_next board ps (deed_after board ds e))
+      → IsPlaced board (h ++ e ∷ [])
+  onward e moved =
+      let h' = h ++ e ∷ [] in
+      let deed = deed_after board ds e in
+      let left = ap (pending_sets board) (deeds-push board h e)
+      ∙ pending-next board ds e (advances_le-accepted board h legal) in
+      subst (λ it. HasPlaces board h' it (pending_sets board (deeds board h')))
+      (sym (changed-more board h e legal))
+      (subst (λ it. HasPlaces board h' (cs ++ option_to_list (change_in board ps deed)) it)
+      (sym left) moved)
+
+  idle : (e : Event) → HasPlaces board (h ++ e ∷ []) (cs ++ []) (ps ++ [])
+  idle e =
+      one-more board h e cs ps had None None (λ p is. refl) (λ c is. absurd (cc)) (λ p is. absurd (cc))
+
+  placed : (e : Event) → CanFollow board h e → IsPlaced board (h ++ e ∷ [])
+  placed (Command a (Good m)) follows =
+      let e = Command a (Good m) in
+      let success = success_at e (deed_after board ds e).reply in
+      onward e
+      (one-more board h e cs ps had (option_and_then (change_now board) success)
+      (option_and_then (acceptance board) success)
+      (λ p is. later-not_now board success p is)
+      (λ c is. came board h a m c follows (now-asked board success c is))
+      (λ p is. came board h a m (completion p) follows (later-asked board success p is)))
+  placed (Command a (Malformed len header)) follows =
+      onward (Command a (Malformed len header)) (idle (Command a (Malformed len header)))
+  placed (CommandFailed a (Good m)) follows =
+      onward (CommandFailed a (Good m)) (idle (CommandFailed a (Good m)))
+  placed (CommandFailed a (Malformed len header)) follows =
+      onward (CommandFailed a (Malformed len header)) (idle (CommandFailed a (Malformed len header)))
+  placed (Sent a) follows = onward (Sent a) (idle (Sent a))
+  placed (Restarted a) follows =
+      let h' = h ++ Restarted a ∷ [] in
+      let left = map (unwanted a) ps in
+      onward (Restarted a)
+      (subst (λ it. HasPlaces board h' it (left ++ [])) (sym (append-nil cs))
+      (subst (λ it. HasPlaces board h' cs it) (sym (append-nil left))
+      (restarted board h' cs a ps (kept board h (Restarted a) cs ps had))))
+  placed Advance follows =
+      onward Advance (first board (h ++ Advance ∷ []) cs ps (kept board h Advance cs ps had))
+  placed AdvanceFailed follows =
+      let h' = h ++ AdvanceFailed ∷ [] in
+      onward AdvanceFailed
+      (subst (λ it. HasPlaces board h' it (drop 1 ps)) (sym (append-nil cs))
+      (failed board h' cs ps (kept board h AdvanceFailed cs ps had)))
+
+places : (board : Board) {h : List Event} → Grown h → IsLegal board h → IsPlaced board h
+unfolding deeds fold_with_prefix
+places board empty legal =
+    record { places = []; waiting = []; changed = tt; pending = tt; apart = tt; below = tt }
+places board (grow {xs} g e) legal =
+    let front = IsLegal-front board xs e legal in
+    placed board xs front (places board g front) e (IsLegal-last board xs e legal)
+
+pub own_causes : (board : Board) (h : List Event) → IsLegal board h → HasOwnCauses board h
+own_causes board h legal =
+    let had = places board (grown h) legal in
+    record {
+      places = had.places;
+      causes = had.changed;
+      differ = all-pairs had.places (apart-front had.places had.waiting had.apart);
+    }
