@@ -1,4 +1,6 @@
 //! Replies in words, as comments after their lines.
+ghost use Rattle.std.specs.Prelude.{IfErr};
+ghost use Rattle.scmi_live.specs.LiveError.{IsRefused};
 
 use scmi_codec::{Answer, Frame};
 use scmi_describe::{Description, describe_message, write_description};
@@ -15,7 +17,9 @@ pub fn write_remark<W: Write>(
     alloc: Global,
     writer: &mut W,
     line: &StepLine,
-) -> Result<(), LiveError> {
+) -> Result<(), LiveError>
+    ensures errors { IfErr result IsRefused }
+{
     let Some(description) = described_line(line) else {
         return Ok(());
     };

@@ -34,6 +34,9 @@ pub struct Teller<'a, T: Eprint, W: Write + Drop, S: Write + Drop> {
 }
 
 impl<'a, T: Eprint, W: Write + Drop, S: Write + Drop> Teller<'a, T, W, S> {
+    ghost use Rattle.std.specs.Prelude.{IfErr};
+    ghost use Rattle.scmi_live.specs.LiveError.{IsRefused};
+
     /// Writes and reports a session on this board. A script in which it is saved has the lines of
     /// the board from here on.
     pub fn new(
@@ -100,8 +103,10 @@ impl<'a, T: Eprint, W: Write + Drop, S: Write + Drop> Teller<'a, T, W, S> {
         }
     }
 
-    /// Writes a step to the script.
-    fn save_step(&mut self, step: &Step) -> Result<(), LiveError> {
+    /// Writes a step to the script. `Memory` when out of memory, and `Write` if it can't be written.
+    fn save_step(&mut self, step: &Step) -> Result<(), LiveError>
+        ensures errors { IfErr result IsRefused }
+    {
         if self.saved.is_none() {
             return Ok(());
         }
@@ -116,7 +121,10 @@ impl<'a, T: Eprint, W: Write + Drop, S: Write + Drop> Teller<'a, T, W, S> {
     }
 
     /// Writes a line, and its message in words if that is asked for, and flushes what was written.
-    fn write_answer(&mut self, line: &StepLine) -> Result<(), LiveError> {
+    /// The errors are those of `save_step`.
+    fn write_answer(&mut self, line: &StepLine) -> Result<(), LiveError>
+        ensures errors { IfErr result IsRefused }
+    {
         if write_step_line(&mut self.output, line).is_err() {
             return Err(LiveError::Write);
         }
@@ -157,7 +165,8 @@ impl<T: Eprint, W: Write + Drop, S: Write + Drop> Listener for Teller<'_, T, W, 
 
     fn took(&mut self, step: &Step, line: &StepLine) -> Result<(), LiveError> {
         self.save_step(step)?;
-        self.write_answer(line)
+        self.write_answer(line)?;
+        Ok(())
     }
 
     fn describe(&mut self, on: bool) {
@@ -209,7 +218,8 @@ impl<T: Eprint, W: Write + Drop, S: Write + Drop> Listener for Teller<'_, T, W, 
         if dropped > 0 {
             let _ = eprintln!(self.rt; "dropped in all: {dropped}");
         }
-        self.write_answer(line)
+        self.write_answer(line)?;
+        Ok(())
     }
 
     fn failed(&mut self, fault: LiveError) {

@@ -5,3 +5,5 @@ mod NameLists
 mod Joined
 mod Numbers
 mod UnderWay
+mod NewSession
+pub mod Answered

@@ -25,7 +25,7 @@ use Rattle.scmi_live.specs.Meant.{line_meant}
 use Rattle.scmi_live.specs.declared.meant.Meant.{Meant}
 use Rattle.scmi_live.specs.declared.meant.Meant.TheVariants.{Describe, Does, Help, Nothing, Quit, Unknown}
 
-gives_more : (old now new : Option (List Heard)) (first then : List Heard) → Gives old now first → Gives now new then → Gives old new (first ++ then)
+pub gives_more : (old now new : Option (List Heard)) (first then : List Heard) → Gives old now first → Gives now new then → Gives old new (first ++ then)
 gives_more None now new first then gave more = tt
 gives_more (Some all) None new first then gave more = absurd gave
 gives_more (Some all) (Some grown) None first then gave more = absurd more
@@ -122,12 +122,14 @@ module _ (full : Bool) (Shows : CallerView → Result Closing CloseError → Typ
         heard = all.heard;
       }
 
+  pub agents_count : (said : Described) (plan : Board) (agents : ℕ) → plan ≡ with_its_lines said → agents ≡ length plan.agents → agents ≡ length said.0.agents
+  agents_count said plan agents plan_is agents_is = agents_is ∙ ap (λ (b : Board). length b.agents) plan_is ∙ ap length (agents_kept said.0 said.1)
+
   pub at_begin : (said : Described) (plan : Board) (whole : Option (List ℕ)) (live : LiveView) (old : Option (List Heard)) → plan ≡ with_its_lines said → live.board ≡ said.0 → live.agents ≡ length plan.agents → IsNewSession plan live.session
       → IsUnderWay said whole whole live old old
   at_begin said plan None live old plan_is board_is agents_is new = tt
   at_begin said plan (Some input) live old plan_is board_is agents_is new = λ end rest.
-      let count : live.agents ≡ length said.0.agents = agents_is ∙ ap (λ (b : Board). length b.agents) plan_is ∙ ap length (agents_kept said.0 said.1) in
-      begun said live.board live.agents live.session input old end board_is count (subst (λ b. IsNewSession b live.session) plan_is new) rest
+      begun said live.board live.agents live.session input old end board_is (agents_count said plan live.agents plan_is agents_is) (subst (λ b. IsNewSession b live.session) plan_is new) rest
 
   has_feed : (rest : List ℕ) → true ≡ has_line_feed rest → position_or_len is_line_feed rest < length rest
   has_feed rest e = grind (arith, nat_tests)
@@ -136,13 +138,13 @@ module _ (full : Bool) (Shows : CallerView → Result Closing CloseError → Typ
   no_feed rest e = grind (arith, nat_tests)
 
   -- the lines of what is left, where a line feed ends the first
-  split_at : (rest rest' line : List ℕ) → line ≡ first_line rest → rest' ≡ after_line rest → true ≡ has_line_feed rest → slice_split is_line_feed rest ≡ line ∷ slice_split is_line_feed rest'
+  pub split_at : (rest rest' line : List ℕ) → line ≡ first_line rest → rest' ≡ after_line rest → true ≡ has_line_feed rest → slice_split is_line_feed rest ≡ line ∷ slice_split is_line_feed rest'
   split_at rest rest' line first behind feed =
       let parts : slice_split is_line_feed rest ≡ first_line rest ∷ slice_split is_line_feed (after_line rest) = slice_split_first is_line_feed rest 0 (has_feed rest feed) in
       parts ∙ ap (λ l. l ∷ slice_split is_line_feed (after_line rest)) (sym first) ∙ ap (λ r. line ∷ slice_split is_line_feed r) (sym behind)
 
   -- the same, where none does
-  split_last : (rest line : List ℕ) → line ≡ first_line rest → false ≡ has_line_feed rest → slice_split is_line_feed rest ≡ line ∷ []
+  pub split_last : (rest line : List ℕ) → line ≡ first_line rest → false ≡ has_line_feed rest → slice_split is_line_feed rest ≡ line ∷ []
   split_last rest line first none =
       let past = no_feed rest none in
       let parts : slice_split is_line_feed rest ≡ rest ∷ [] = slice_split_none is_line_feed rest (λ k x inside. fails_before_first is_line_feed rest k x (omega (arith, past, inside))) in

@@ -3,7 +3,8 @@
 //! The main theorems are the contract of `step_meant`, the step that a line encodes: that of its
 //! numbers, as a script has it, or else that of its names; and that of `run_live`: a listener is
 //! given exactly these steps, each with the line that it gives, in order, and at the end the length
-//! of the history. How they are written is the listener's.
+//! of the history; after an error, exactly those of the lines before. How they are written is the
+//! listener's.
 #![tactic(auto)]
 
 mod flags;

@@ -37,13 +37,14 @@ impl<'a, C: Channel> Model for Live<'a, C> {
 }
 
 impl<'a, C: Channel> Live<'a, C> {
-    ghost use Rattle.std.specs.Prelude.{◌≡◌, length, IfOk, OnOk};
+    ghost use Rattle.std.specs.Prelude.{◌≡◌, length, IfErr, IfOk, IsErrOf, OnErr, OnOk};
     ghost use Rattle.scmi_plan.specs.RawPlan.{asked_board};
     ghost use Rattle.scmi_ends.specs.Shut.{ShowsClose};
     ghost use Rattle.scmi_session.specs.Run.{IsGathered, IsNewSession};
     ghost use Rattle.scmi_text.specs.Step.{IsStepOf};
-    ghost use Rattle.scmi_live.specs.Heard.{Gives};
-    ghost use Rattle.scmi_live.specs.Live.{Answers, AnswersAs, MakesStep, at_end, goes_on};
+    ghost use Rattle.scmi_live.specs.Heard.{Gives, MayGive};
+    ghost use Rattle.scmi_live.specs.Live.{Answers, AnswersAs, IsStep, MakesStep, StopsAs, StopsAt, StopsStep, at_end, goes_on};
+    ghost use Rattle.scmi_live.specs.LiveError.{IsRefused};
     ghost use Rattle.scmi_live.specs.Meant.{IsMeantOf, line_meant};
 
     /// A session over new channels, of a board of which this is the plan.
@@ -69,7 +70,8 @@ impl<'a, C: Channel> Live<'a, C> {
 
     /// Answers a line: makes the step that it encodes, and gives the listener what came of it, or
     /// what else the line asks for. A line that encodes no step leaves the session as it is. Whether
-    /// the session goes on.
+    /// the session goes on. `Memory` when out of memory, and what the listener gives: then it was
+    /// given nothing, or the step with its line. `Write` only at a step.
     pub(crate) fn answer<L: Listener>(
         &mut self,
         number: usize,
@@ -81,6 +83,12 @@ impl<'a, C: Channel> Live<'a, C> {
         ensures answers { OnOk result
             (Answers C.FULL (ShowsClose C.caller_view C.close_shows) text.now self.old self.new
             (L.heard listener.old) (L.heard listener.new)) }
+        ensures stops { OnErr result
+            (StopsAt C.FULL (ShowsClose C.caller_view C.close_shows) text.now self.old self.new
+            (L.heard listener.old) (L.heard listener.new)) }
+        ensures errors { IfErr result IsRefused }
+        ensures write { IsErrOf result LiveError.Write →
+            IsStep (line_meant self.old.board self.old.agents text.now) }
     {
         let meant = line_meant(self.alloc, self.board, self.agents, text)?;
         self.act(meant, number, text, listener)
@@ -99,6 +107,11 @@ impl<'a, C: Channel> Live<'a, C> {
         ensures answers { OnOk result
             (AnswersAs C.FULL (ShowsClose C.caller_view C.close_shows) meant self.old self.new
             (L.heard listener.old) (L.heard listener.new)) }
+        ensures stops { OnErr result
+            (StopsAs C.FULL (ShowsClose C.caller_view C.close_shows) meant self.old self.new
+            (L.heard listener.old) (L.heard listener.new)) }
+        ensures errors { IfErr result IsRefused }
+        ensures write { IsErrOf result LiveError.Write → IsStep meant }
     {
         match meant {
             Meant::Nothing => Ok(true),
@@ -132,6 +145,10 @@ impl<'a, C: Channel> Live<'a, C> {
         ensures makes { OnOk result
             (MakesStep C.FULL (ShowsClose C.caller_view C.close_shows) step.now self.old self.new
             (L.heard listener.old) (L.heard listener.new)) }
+        ensures stops { OnErr result
+            (StopsStep C.FULL (ShowsClose C.caller_view C.close_shows) step.now self.old self.new
+            (L.heard listener.old) (L.heard listener.new)) }
+        ensures errors { IfErr result IsRefused }
     {
         let before = Standing::of(self.session.core());
         let line = self.session.step(step)?;
@@ -158,6 +175,9 @@ impl<'a, C: Channel> Live<'a, C> {
         ensures gathered { IsGathered self.entry.session }
         ensures heard { OnOk result (Gives (L.heard listener.old) (L.heard listener.new)
             (at_end self.entry.session)) }
+        ensures stops { OnErr result (MayGive (L.heard listener.old) (L.heard listener.new)
+            (at_end self.entry.session)) }
+        ensures errors { IfErr result IsRefused }
     {
         let dropped = self.dropped;
         let events = self.session.retire().len();
