@@ -7,3 +7,4 @@ pub mod Reaching
 pub mod Apart
 pub mod OwnCauses
 pub mod Events
+pub mod RoundCalls

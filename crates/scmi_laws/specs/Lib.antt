@@ -1,3 +1,4 @@
 pub mod Reads
 pub mod Others
 pub mod Causes
+pub mod Round
