@@ -6,7 +6,7 @@
 //! `every_event` have all that other commands and the other events are to another agent.
 //! `every_change`: no two changes came of one command.
 //!
-//! `round` is progress, as far as calls go: it serves each agent once, ends the first pending set,
+//! `run_round` is progress, as far as calls go: it serves each agent once, ends the first pending set,
 //! and flushes each outbox once. Then no agent is owed an answer, that set is gone, and a message
 //! that still waits has another in its channel, unless that is closed or may be full. No agent has
 //! more than one turn. Nothing is said of time, or of what another thread posts meanwhile
@@ -21,4 +21,4 @@ mod rounds;
 pub use causes::every_change;
 pub use others::{every_event, every_other_agent};
 pub use reads::every_read;
-pub use rounds::round;
+pub use rounds::run_round;

@@ -27,7 +27,7 @@ use scmi_link::Channel;
 ///
 /// Nothing is promised of time, nor that a command which another thread has just posted is taken in
 /// this round: that is the channel's own affair.
-pub fn round<C: Channel, H: Hardware>(
+pub fn run_round<C: Channel, H: Hardware>(
     platform: &mut Controller<C>,
     links: &[Link<C>],
     hardware: &mut H,

@@ -3,8 +3,8 @@ use Rattle.scmi_plan.specs.Agent.{IsAgent}
 use Rattle.scmi_ends.specs.ControllerView.{caller_of}
 use Rattle.scmi_laws.specs.Round.{EndsFirst, GoesOnFairly, HasPostedAll, IsOrderly}
 use Rattle.scmi_laws.proofs.RoundCalls.{fair-bound, fair-served, made-flushed, ok-map, on-ok, round-fair, round-pending}
-use Rattle.scmi_laws.proofs.rounds.round.Goals as goal
-use Rattle.scmi_laws.proofs.rounds.round.Goals.{After-flush_each}
+use Rattle.scmi_laws.proofs.rounds.run_round.Goals as goal
+use Rattle.scmi_laws.proofs.rounds.run_round.Goals.{After-flush_each}
 
 -- a round that is cut off while it serves
 pub returns-in_err-serve_each-clause-fair : goal.returns-in_err-serve_each-clause-fair
