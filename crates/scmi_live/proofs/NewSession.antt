@@ -1,5 +1,5 @@
 -- A session on which nothing was done.
-use Rattle.std.proofs.Common.{◌≡◌, ℕ, ◌+◌, List, [], ◌∷◌, length, None, refl, ap}
+use Rattle.std.proofs.Common.{◌≡◌, ℕ, suc, ◌+◌, List, [], ◌∷◌, length, None, refl, ap}
 use Rattle.std.specs.Prelude.{replicate}
 use Rattle.scmi_link.specs.View.{new_callee, new_caller}
 use Rattle.scmi_plan.specs.Board.{Board}
