@@ -272,7 +272,7 @@ static inline size_t scmi_platform_bytes(const scmi_board *board)
 /*
  * Executes the frame in an agent's area, and answers it in place: the reply and status word 1, or
  * status word 3 to a malformed frame. SCMI_DONE, SCMI_NO_PLATFORM, SCMI_ASKED, SCMI_NOTHING (the channel is free) or
- * SCMI_NO_AGENT. Agents are numbered from 1.
+ * SCMI_NO_AGENT. Agents are numbered from 1. A program that switches hardware calls scmi_ask instead.
  */
 uint32_t scmi_answer(scmi_platform *SCMI_ALONE platform, uint32_t agent, uint8_t area[SCMI_ALONE SCMI_AREA_BYTES]);
 
@@ -283,6 +283,10 @@ uint32_t scmi_answer(scmi_platform *SCMI_ALONE platform, uint32_t agent, uint8_t
  * scmi_commit, or scmi_fail if the hardware refused; until then every call that would change the platform gives
  * SCMI_ASKED and changes nothing, and the calls that read it go on. SCMI_NO_PLATFORM, SCMI_ASKED, SCMI_NO_FRAME (the
  * channel is free) or SCMI_NO_AGENT.
+ *
+ * If a program commits exactly what its hardware made, fails exactly what it refused, and calls scmi_advance and
+ * scmi_fail_advance in the same way, then its hardware has made exactly the changes of the platform's history, in
+ * order, each once, and refused exactly those that failed.
  */
 uint32_t scmi_ask(scmi_platform *SCMI_ALONE platform, uint32_t agent, uint8_t area[SCMI_ALONE SCMI_AREA_BYTES],
                   scmi_effect *SCMI_ALONE effect);

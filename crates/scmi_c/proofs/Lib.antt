@@ -1,9 +1,11 @@
 pub mod HandleValues
 pub mod LooseValues
+pub mod SaidValues
 mod Answering
 mod Codes
 mod AreaIn
 mod Keeping
+mod Driving
 mod WordReplies
 pub mod TableLemmas
 mod TableExamples

@@ -2,13 +2,15 @@
 use Rattle.std.specs.Prelude.{◌≡◌, ◌≢◌, ℕ, ◌-◌, ◌^◌, min, List, length, Option, Some, None, ⊤}
 use Rattle.scmi_plan.specs.Agent.{IsNoAgent}
 use Rattle.scmi_plan.specs.Board.{Board}
+use Rattle.scmi_core.specs.Asked.{Asked}
 use Rattle.scmi_core.specs.Standing.{Standing, StandsAfter}
 use Rattle.scmi_core.specs.declared.event.Event.{Event}
 
--- a platform, and the number of its events if they are counted
+-- a platform, the number of its events if they are counted, and what the program has said of the hardware: each change that it made or refused, in order
 pub record Held : Type 0 where
   pub platform : Standing
   pub events : Option ℕ
+  pub said : List Asked
 
 -- the board of a platform
 abbrev pub board_of : Held → Board

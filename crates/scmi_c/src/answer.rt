@@ -7,6 +7,7 @@ ghost use Rattle.scmi_core.specs.declared.event.Event.TheVariants.{Advance};
 ghost use Rattle.scmi_c.specs.Kept.{IsAsked, IsUnasked};
 ghost use Rattle.scmi_c.specs.Standing.{LacksAgent, StandsAt, board_of};
 ghost use Rattle.scmi_c.specs.Calls.{HasAnswered, HasHappened};
+ghost use Rattle.scmi_c.specs.Driven.{Drives, IsUnsaid};
 ghost use Rattle.scmi_c.specs.declared.code.TheConstants.{ASKED, DONE, NOTHING, NO_AGENT, NO_PLATFORM};
 
 use crate::area::answer;
@@ -18,7 +19,8 @@ use std::alloc::Global;
 
 /// Executes the frame in an agent's area, and answers it in place. `DONE`; `NO_PLATFORM`; `ASKED`
 /// if a command waits to be committed or to fail; `NOTHING` if the channel is free; `NO_AGENT`. After
-/// another number than `DONE` nothing changed.
+/// another number than `DONE` nothing changed. The hardware is not asked, and nothing is said of
+/// it: a program that drives hardware uses `scmi_ask`.
 #[tactic(auto, using(crate::proofs::AreaIn::whole_waits))]
 #[unsafe(no_mangle)]
 pub extern "C" fn scmi_answer(
@@ -32,6 +34,11 @@ pub extern "C" fn scmi_answer(
         IsSomeAnd platform.new.value (λ k.
         IsSomeAnd (frame_waiting area.old) (λ frame. IsUnasked k
         × HasAnswered p.held k.held agent frame area.old area.new))) }
+    ensures unsaid { result ≡ DONE →
+        IsSomeAnd platform.old.value (λ p.
+        IsSomeAnd platform.new.value (λ k.
+        IsSomeAnd (frame_waiting area.old) (λ frame.
+        IsUnsaid p.held k.held agent frame))) }
     ensures no_platform { (result ≡ NO_PLATFORM) ↔ (platform.old.value ≡ None) }
     ensures asked { (result ≡ ASKED) ↔ IsSomeAnd platform.old.value IsAsked }
     ensures free { (result ≡ NOTHING) ↔
@@ -54,15 +61,18 @@ pub extern "C" fn scmi_answer(
     code(given)
 }
 
-/// Completes the first pending set. `DONE`; `NO_PLATFORM`; `ASKED` if a command waits to be
-/// committed or to fail; `NOTHING` if none is pending. After another number than `DONE` nothing
-/// changed.
+/// Completes the first pending set, whose change the hardware has made. `DONE`; `NO_PLATFORM`;
+/// `ASKED` if a command waits to be committed or to fail; `NOTHING` if none is pending. After
+/// another number than `DONE` nothing changed.
 #[unsafe(no_mangle)]
 pub extern "C" fn scmi_advance(alloc: Global, platform: &mut Handle) -> u32
     ensures done { result ≡ DONE →
         IsSomeAnd platform.old.value (λ p.
         IsSomeAnd platform.new.value (λ k.
         IsUnasked k × HasHappened p.held k.held Advance)) }
+    ensures driven { result ≡ DONE →
+        IsSomeAnd platform.old.value (λ p.
+        IsSomeAnd platform.new.value (λ k. Drives p.held k.held Advance)) }
     ensures nothing { IfSome platform.old.value (λ p. IsUnasked p →
         (h : List Event) → StandsAt p.held h →
         (result ≡ NOTHING) ↔ IsIdle (board_of p.held) h) }

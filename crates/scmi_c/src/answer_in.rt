@@ -5,6 +5,7 @@ ghost use Rattle.scmi_core.specs.declared.event.Event.{Event};
 ghost use Rattle.scmi_c.specs.Calls.{HasAnswered, HasNext, HasPosted, LacksNext};
 ghost use Rattle.scmi_c.specs.Kept.{IsAsked, IsUnasked};
 ghost use Rattle.scmi_c.specs.Channel.{HasAnotherSize, HasSize, IsFreeOf};
+ghost use Rattle.scmi_c.specs.Driven.{IsUnsaid};
 ghost use Rattle.scmi_c.specs.Standing.{LacksAgent, StandsAt, board_of};
 ghost use Rattle.scmi_c.specs.declared.code.TheConstants.{ASKED, DONE, NOTHING, MEMORY, NO_AGENT, NOT_FREE, NO_PLATFORM, WRONG_SIZE};
 
@@ -15,7 +16,8 @@ use crate::handle::Handle;
 use std::alloc::Global;
 
 /// As `scmi_answer`, in an area of the size of its agent's channel. `NO_PLATFORM`, `ASKED`, `NO_AGENT`
-/// and `WRONG_SIZE`, if the area has another size, come before all else, in this order.
+/// and `WRONG_SIZE`, if the area has another size, come before all else, in this order. A program
+/// that drives hardware uses `scmi_ask_in`.
 #[unsafe(no_mangle)]
 pub extern "C" fn scmi_answer_in(
     alloc: Global,
@@ -28,6 +30,11 @@ pub extern "C" fn scmi_answer_in(
         IsSomeAnd platform.new.value (λ k.
         IsSomeAnd (channel_waiting area.old) (λ frame. IsUnasked k
         × HasAnswered p.held k.held agent frame area.old area.new))) }
+    ensures unsaid { result ≡ DONE →
+        IsSomeAnd platform.old.value (λ p.
+        IsSomeAnd platform.new.value (λ k.
+        IsSomeAnd (channel_waiting area.old) (λ frame.
+        IsUnsaid p.held k.held agent frame))) }
     ensures no_platform { (result ≡ NO_PLATFORM) ↔ (platform.old.value ≡ None) }
     ensures asked { (result ≡ ASKED) ↔ IsSomeAnd platform.old.value IsAsked }
     ensures no_agent { (result ≡ NO_AGENT) ↔

@@ -1,5 +1,6 @@
 //! Commands as the words of their messages are executed.
 ghost use Rattle.std.specs.Prelude.{◌≡◌, ◌≢◌, ◌↔◌, ◌⊎◌, None, IsSomeAnd, length};
+ghost use Rattle.scmi_c.specs.Driven.{IsUnsaid};
 ghost use Rattle.scmi_c.specs.Kept.{IsAsked, IsUnasked};
 ghost use Rattle.scmi_c.specs.Standing.{LacksAgent};
 ghost use Rattle.scmi_c.specs.Words.{HasAnsweredWords, LacksWords, frame_in};
@@ -16,7 +17,7 @@ use std::alloc::Global;
 /// `NO_PLATFORM`; `ASKED` if a command waits to be committed or to fail; `NO_AGENT`; `WRONG_SIZE`
 /// if there is no header word, if the message has more words than the agent's channel, or if
 /// `reply` has not room for as many as a reply may have. After another number than `DONE` nothing
-/// changed.
+/// changed. The hardware is not asked: a program that drives hardware uses `scmi_ask_words`.
 #[unsafe(no_mangle)]
 pub extern "C" fn scmi_answer_words(
     alloc: Global,
@@ -31,6 +32,10 @@ pub extern "C" fn scmi_answer_words(
         IsSomeAnd platform.new.value (λ k. IsUnasked k
         × HasAnsweredWords p.held k.held agent (frame_in message.now)
         count.new reply.old reply.new)) }
+    ensures unsaid { result ≡ DONE →
+        IsSomeAnd platform.old.value (λ p.
+        IsSomeAnd platform.new.value (λ k.
+        IsUnsaid p.held k.held agent (frame_in message.now))) }
     ensures no_platform { (result ≡ NO_PLATFORM) ↔ (platform.old.value ≡ None) }
     ensures asked { (result ≡ ASKED) ↔ IsSomeAnd platform.old.value IsAsked }
     ensures no_agent { (result ≡ NO_AGENT) ↔

@@ -14,6 +14,7 @@ ghost use Rattle.scmi_core.specs.declared.event.Event.TheVariants.{Command as Ca
 ghost use Rattle.scmi_c.specs.Standing.{LacksAgent, StandsAt, board_of};
 ghost use Rattle.scmi_c.specs.Calls.{HasAnswered, HasPosted, HasNext, IsAskedAbout, LacksNext};
 ghost use Rattle.scmi_c.specs.Channel.{IsAreaOf};
+ghost use Rattle.scmi_c.specs.Driven.{Drives, IsUnsaid};
 
 use crate::desk::Exchange;
 use crate::held::Held;
@@ -39,6 +40,8 @@ pub fn answer(
         (IsSomeAnd
         (channel_waiting area.old)
         (λ frame. HasAnswered held.old held.new agent frame area.old area.new)) }
+    ensures unsaid { OnOk result (IsSomeAnd (channel_waiting area.old) (λ frame.
+        IsUnsaid held.old held.new agent frame)) }
     ensures free { (result ≡ Err Refusal.Nothing) ↔ (channel_waiting area.old ≡ None) }
     ensures no_agent { (result ≡ Err Refusal.NoAgent) ↔
         ((channel_waiting area.old ≢ None) × LacksAgent agent held.old) }
@@ -63,6 +66,7 @@ fn execute(held: &mut Held, exchange: &mut Exchange, agent: u32, area: &mut [u8]
     requires room { IsAreaOf agent (length area.old) held.old }
     requires waits { channel_waiting area.old ≡ Some exchange.old.frame }
     ensures answered { HasAnswered held.old held.new agent exchange.old.frame area.old area.new }
+    ensures unsaid { IsUnsaid held.old held.new agent exchange.old.frame }
     ensures frame { exchange.new.frame ≡ exchange.old.frame }
 {
     let answered = held.command(agent, &exchange.frame, &mut exchange.reply);
@@ -87,6 +91,7 @@ fn put_answer(area: &mut [u8], answered: Answered, payload: &Payload)
 /// Executes the frame in an agent's area and answers it in place, if it changes no hardware. Else
 /// gives what it is to change, and keeps the frame. `NoFrame` if the channel is free; else
 /// `NoAgent` if the board lacks the agent. Then nothing changed.
+#[tactic(auto, using(crate::proofs::Driving::drives_none))]
 #[inline(always)]
 pub fn ask(
     held: &mut Held,
@@ -101,6 +106,8 @@ pub fn ask(
         effect ≡ effect_after (board_of held.old) h (Called agent frame))) }
     ensures answered { result ≡ Ok None → IsSomeAnd (channel_waiting area.old) (λ frame.
         HasAnswered held.old held.new agent frame area.old area.new) }
+    ensures driven { result ≡ Ok None → IsSomeAnd (channel_waiting area.old) (λ frame.
+        Drives held.old held.new (Called agent frame)) }
     ensures asked { IfOk result (λ effect. effect ≢ None →
         (channel_waiting area.old ≡ Some exchange.new.frame) × (area.new ≡ area.old)
         × IsAskedAbout held.old held.new agent) }

@@ -7,6 +7,7 @@ ghost use Rattle.scmi_core.specs.declared.event.Event.{Event};
 ghost use Rattle.scmi_core.specs.declared.event.Event.TheVariants.{Command as Called};
 ghost use Rattle.scmi_c.specs.Calls.{HasAnswered, HasNext, HasPosted, IsAskedAbout, LacksNext};
 ghost use Rattle.scmi_c.specs.Channel.{HasAnotherSize, HasSize, IsFreeOf};
+ghost use Rattle.scmi_c.specs.Driven.{Drives, IsUnsaid};
 ghost use Rattle.scmi_c.specs.Standing.{LacksAgent, StandsAt, board_of};
 
 use crate::area;
@@ -28,6 +29,8 @@ pub fn answer(
         (IsSomeAnd
         (channel_waiting area.old)
         (λ frame. HasAnswered held.old held.new agent frame area.old area.new)) }
+    ensures unsaid { OnOk result (IsSomeAnd (channel_waiting area.old) (λ frame.
+        IsUnsaid held.old held.new agent frame)) }
     ensures no_agent { (result ≡ Err Refusal.NoAgent) ↔ LacksAgent agent held.old }
     ensures wrong_size { (result ≡ Err Refusal.WrongSize)
         ↔ HasAnotherSize agent (length area.old) held.old }
@@ -55,6 +58,8 @@ pub fn ask(
         effect ≡ effect_after (board_of held.old) h (Called agent frame))) }
     ensures answered { result ≡ Ok None → IsSomeAnd (channel_waiting area.old) (λ frame.
         HasAnswered held.old held.new agent frame area.old area.new) }
+    ensures driven { result ≡ Ok None → IsSomeAnd (channel_waiting area.old) (λ frame.
+        Drives held.old held.new (Called agent frame)) }
     ensures asked { IfOk result (λ effect. effect ≢ None →
         (channel_waiting area.old ≡ Some exchange.new.frame) × (area.new ≡ area.old)
         × IsAskedAbout held.old held.new agent) }

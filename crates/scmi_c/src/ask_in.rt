@@ -4,6 +4,7 @@ ghost use Rattle.scmi_codec.specs.ChannelArea.{channel_waiting};
 ghost use Rattle.scmi_core.specs.Effect.{effect_after};
 ghost use Rattle.scmi_core.specs.declared.event.Event.{Event};
 ghost use Rattle.scmi_core.specs.declared.event.Event.TheVariants.{Command as Called};
+ghost use Rattle.scmi_c.specs.Driven.{Drives};
 ghost use Rattle.scmi_c.specs.Effect.{numbers_of};
 ghost use Rattle.scmi_c.specs.Kept.{HasAsked, IsAsked, IsUnasked};
 ghost use Rattle.scmi_c.specs.Standing.{LacksAgent, StandsAt, board_of};
@@ -33,6 +34,11 @@ pub extern "C" fn scmi_ask_in(
         IsSomeAnd platform.new.value (λ k.
         IsSomeAnd (channel_waiting area.old) (λ frame. IsUnasked k
         × HasAnswered p.held k.held agent frame area.old area.new))) }
+    ensures driven { result ≡ DONE →
+        IsSomeAnd platform.old.value (λ p.
+        IsSomeAnd platform.new.value (λ k.
+        IsSomeAnd (channel_waiting area.old) (λ frame.
+        Drives p.held k.held (Called agent frame)))) }
     ensures nothing { result ≡ DONE →
         IsSomeAnd platform.old.value (λ p.
         IsSomeAnd (channel_waiting area.old) (λ frame.
@@ -49,6 +55,9 @@ pub extern "C" fn scmi_ask_in(
         (h : List Event) → StandsAt p.held h →
         option_map numbers_of (effect_after (board_of p.held) h (Called agent frame))
         ≡ Some effect.new)) }
+    ensures gives { result ≡ EFFECT →
+        IsSomeAnd platform.new.value (λ k.
+        IsSomeAnd k.asked (λ asked. asked.change ≡ effect.new)) }
     ensures no_platform { (result ≡ NO_PLATFORM) ↔ (platform.old.value ≡ None) }
     ensures asked { (result ≡ ASKED) ↔ IsSomeAnd platform.old.value IsAsked }
     ensures no_agent { (result ≡ NO_AGENT) ↔

@@ -5,6 +5,7 @@ ghost use Rattle.scmi_core.specs.declared.event.Event.{Event};
 ghost use Rattle.scmi_core.specs.declared.event.Event.TheVariants.{Command as Called};
 ghost use Rattle.scmi_c.specs.Calls.{ChangesNothing};
 ghost use Rattle.scmi_c.specs.Channel.{bytes_of};
+ghost use Rattle.scmi_c.specs.Driven.{Drives};
 ghost use Rattle.scmi_c.specs.Effect.{numbers_of};
 ghost use Rattle.scmi_c.specs.Kept.{HasAsked, IsAsked, IsUnasked};
 ghost use Rattle.scmi_c.specs.Standing.{LacksAgent, StandsAt, board_of};
@@ -37,6 +38,10 @@ pub extern "C" fn scmi_ask_words(
         IsSomeAnd platform.new.value (λ k. IsUnasked k
         × HasAnsweredWords p.held k.held agent (frame_in message.now)
         count.new reply.old reply.new)) }
+    ensures driven { result ≡ DONE →
+        IsSomeAnd platform.old.value (λ p.
+        IsSomeAnd platform.new.value (λ k.
+        Drives p.held k.held (Called agent (frame_in message.now)))) }
     ensures nothing { result ≡ DONE →
         IsSomeAnd platform.old.value (λ p.
         (h : List Event) → StandsAt p.held h →
@@ -51,6 +56,9 @@ pub extern "C" fn scmi_ask_words(
         option_map numbers_of
         (effect_after (board_of p.held) h (Called agent (frame_in message.now)))
         ≡ Some effect.new) }
+    ensures gives { result ≡ EFFECT →
+        IsSomeAnd platform.new.value (λ k.
+        IsSomeAnd k.asked (λ asked. asked.change ≡ effect.new)) }
     ensures no_platform { (result ≡ NO_PLATFORM) ↔ (platform.old.value ≡ None) }
     ensures asked { (result ≡ ASKED) ↔ IsSomeAnd platform.old.value IsAsked }
     ensures no_agent { (result ≡ NO_AGENT) ↔

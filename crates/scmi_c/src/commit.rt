@@ -1,7 +1,10 @@
 //! What a program answers once it has asked the hardware.
 ghost use Rattle.std.specs.Prelude.{◌≡◌, ◌≢◌, ◌↔◌, ◌⊎◌, None, IsSomeAnd};
 ghost use Rattle.scmi_codec.specs.declared.area.TheConstants.{AREA_BYTES};
+ghost use Rattle.scmi_core.specs.Asked.{Made, Refused};
+ghost use Rattle.scmi_core.specs.declared.event.Event.TheVariants.{Command as Called, CommandFailed};
 ghost use Rattle.scmi_c.specs.Calls.{HasAnswered, HasFailed};
+ghost use Rattle.scmi_c.specs.Driven.{Drives, Says};
 ghost use Rattle.scmi_c.specs.Kept.{IsUnasked};
 ghost use Rattle.scmi_c.specs.declared.code.TheConstants.{DONE, NOTHING, NO_PLATFORM, WRONG_SIZE};
 
@@ -12,9 +15,10 @@ use scmi_codec::AREA_BYTES;
 use std::alloc::Global;
 
 /// Executes the command that `scmi_ask` gave a change of, which the hardware has made, and writes
-/// its answer whole: nothing of the area is read. `DONE`; `NO_PLATFORM`; `NOTHING` if no command
-/// was asked about; `WRONG_SIZE` if it was in an area of another size. After another number than
-/// `DONE` nothing changed.
+/// its answer whole: nothing of the area is read. So the program says of the hardware that it made
+/// that change. `DONE`; `NO_PLATFORM`; `NOTHING` if no command was asked about; `WRONG_SIZE` if it
+/// was in an area of another size. After another number than `DONE` nothing changed, and nothing is
+/// said.
 #[unsafe(no_mangle)]
 pub extern "C" fn scmi_commit(
     alloc: Global,
@@ -26,6 +30,15 @@ pub extern "C" fn scmi_commit(
         IsSomeAnd platform.new.value (λ k.
         IsSomeAnd p.asked (λ asked. IsUnasked k
         × HasAnswered p.held k.held asked.agent asked.frame area.old area.new))) }
+    ensures driven { result ≡ DONE →
+        IsSomeAnd platform.old.value (λ p.
+        IsSomeAnd platform.new.value (λ k.
+        IsSomeAnd p.asked (λ asked.
+        Drives p.held k.held (Called asked.agent asked.frame)))) }
+    ensures said { result ≡ DONE →
+        IsSomeAnd platform.old.value (λ p.
+        IsSomeAnd platform.new.value (λ k.
+        IsSomeAnd p.asked (λ asked. Says Made asked.change p.held k.held))) }
     ensures no_platform { (result ≡ NO_PLATFORM) ↔ (platform.old.value ≡ None) }
     ensures nothing { (result ≡ NOTHING) ↔ IsSomeAnd platform.old.value IsUnasked }
     ensures wrong_size { (result ≡ WRONG_SIZE) ↔ IsSomeAnd platform.old.value (λ p.
@@ -44,9 +57,10 @@ pub extern "C" fn scmi_commit(
 }
 
 /// Answers the command that `scmi_ask` gave a change of, which the hardware refused, by
-/// HARDWARE_ERROR, and writes its answer whole: nothing of the area is read. `DONE`; `NO_PLATFORM`;
-/// `NOTHING` if no command was asked about; `WRONG_SIZE` if it was in an area of another size.
-/// After another number than `DONE` nothing changed.
+/// HARDWARE_ERROR, and writes its answer whole: nothing of the area is read. So the program says of
+/// the hardware that it refused that change. `DONE`; `NO_PLATFORM`; `NOTHING` if no command was
+/// asked about; `WRONG_SIZE` if it was in an area of another size. After another number than `DONE`
+/// nothing changed, and nothing is said.
 #[unsafe(no_mangle)]
 pub extern "C" fn scmi_fail(
     alloc: Global,
@@ -58,6 +72,15 @@ pub extern "C" fn scmi_fail(
         IsSomeAnd platform.new.value (λ k.
         IsSomeAnd p.asked (λ asked. IsUnasked k
         × HasFailed p.held k.held asked.agent asked.frame area.old area.new))) }
+    ensures driven { result ≡ DONE →
+        IsSomeAnd platform.old.value (λ p.
+        IsSomeAnd platform.new.value (λ k.
+        IsSomeAnd p.asked (λ asked.
+        Drives p.held k.held (CommandFailed asked.agent asked.frame)))) }
+    ensures said { result ≡ DONE →
+        IsSomeAnd platform.old.value (λ p.
+        IsSomeAnd platform.new.value (λ k.
+        IsSomeAnd p.asked (λ asked. Says Refused asked.change p.held k.held))) }
     ensures no_platform { (result ≡ NO_PLATFORM) ↔ (platform.old.value ≡ None) }
     ensures nothing { (result ≡ NOTHING) ↔ IsSomeAnd platform.old.value IsUnasked }
     ensures wrong_size { (result ≡ WRONG_SIZE) ↔ IsSomeAnd platform.old.value (λ p.

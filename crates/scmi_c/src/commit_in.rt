@@ -1,6 +1,9 @@
 //! The same in areas of the size of their agent's channel.
 ghost use Rattle.std.specs.Prelude.{◌≡◌, ◌≢◌, ◌↔◌, ◌⊎◌, None, IsSomeAnd, length};
+ghost use Rattle.scmi_core.specs.Asked.{Made, Refused};
+ghost use Rattle.scmi_core.specs.declared.event.Event.TheVariants.{Command as Called, CommandFailed};
 ghost use Rattle.scmi_c.specs.Calls.{HasAnswered, HasFailed};
+ghost use Rattle.scmi_c.specs.Driven.{Drives, Says};
 ghost use Rattle.scmi_c.specs.Kept.{IsUnasked};
 ghost use Rattle.scmi_c.specs.declared.code.TheConstants.{DONE, NOTHING, NO_PLATFORM, WRONG_SIZE};
 
@@ -17,6 +20,15 @@ pub extern "C" fn scmi_commit_in(alloc: Global, platform: &mut Handle, area: &mu
         IsSomeAnd platform.new.value (λ k.
         IsSomeAnd p.asked (λ asked. IsUnasked k
         × HasAnswered p.held k.held asked.agent asked.frame area.old area.new))) }
+    ensures driven { result ≡ DONE →
+        IsSomeAnd platform.old.value (λ p.
+        IsSomeAnd platform.new.value (λ k.
+        IsSomeAnd p.asked (λ asked.
+        Drives p.held k.held (Called asked.agent asked.frame)))) }
+    ensures said { result ≡ DONE →
+        IsSomeAnd platform.old.value (λ p.
+        IsSomeAnd platform.new.value (λ k.
+        IsSomeAnd p.asked (λ asked. Says Made asked.change p.held k.held))) }
     ensures no_platform { (result ≡ NO_PLATFORM) ↔ (platform.old.value ≡ None) }
     ensures nothing { (result ≡ NOTHING) ↔ IsSomeAnd platform.old.value IsUnasked }
     ensures wrong_size { (result ≡ WRONG_SIZE) ↔ IsSomeAnd platform.old.value (λ p.
@@ -42,6 +54,15 @@ pub extern "C" fn scmi_fail_in(alloc: Global, platform: &mut Handle, area: &mut 
         IsSomeAnd platform.new.value (λ k.
         IsSomeAnd p.asked (λ asked. IsUnasked k
         × HasFailed p.held k.held asked.agent asked.frame area.old area.new))) }
+    ensures driven { result ≡ DONE →
+        IsSomeAnd platform.old.value (λ p.
+        IsSomeAnd platform.new.value (λ k.
+        IsSomeAnd p.asked (λ asked.
+        Drives p.held k.held (CommandFailed asked.agent asked.frame)))) }
+    ensures said { result ≡ DONE →
+        IsSomeAnd platform.old.value (λ p.
+        IsSomeAnd platform.new.value (λ k.
+        IsSomeAnd p.asked (λ asked. Says Refused asked.change p.held k.held))) }
     ensures no_platform { (result ≡ NO_PLATFORM) ↔ (platform.old.value ≡ None) }
     ensures nothing { (result ≡ NOTHING) ↔ IsSomeAnd platform.old.value IsUnasked }
     ensures wrong_size { (result ≡ WRONG_SIZE) ↔ IsSomeAnd platform.old.value (λ p.

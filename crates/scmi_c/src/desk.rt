@@ -45,7 +45,8 @@ impl Waiting {
 
 /// A platform, and beside it the frame and the reply of the last command. If one was asked about
 /// that is to change the hardware, it waits here, as it was read and with that change, until it is
-/// committed or has failed, and neither can be refused. Contracts see the platform and that command.
+/// committed or has failed, and neither can be refused. Contracts see the platform, and that
+/// command with its change.
 #[derive(Drop)]
 pub struct Desk {
     pub held: Held,
@@ -62,7 +63,7 @@ impl Model for Desk {
     ghost view = { λ d. record { held = d.held; asked = asked_by d.exchange.frame d.waiting } };
 
     ghost invariant = { λ d.
-        IfSome (asked_by d.exchange.frame d.waiting) (IsAskable d.held d.waiting.change) };
+        IfSome (asked_by d.exchange.frame d.waiting) (IsAskable d.held) };
 }
 
 impl Desk {

@@ -3,26 +3,31 @@ ghost use Rattle.std.specs.Prelude.{◌≡◌, ◌≢◌, ◌↔◌, ◌⊎◌, 
 ghost use Rattle.scmi_codec.specs.declared.frame.Answer.TheVariants.{Reply};
 ghost use Rattle.scmi_plan.specs.Agent.{IsAgent};
 ghost use Rattle.scmi_plan.specs.Plan.{IsValid};
+ghost use Rattle.scmi_core.specs.Asked.{Made, Refused};
 ghost use Rattle.scmi_core.specs.Effect.{effect_after};
 ghost use Rattle.scmi_core.specs.History.{IsIdle, HasNothingFor, answer_to, answer_with};
 ghost use Rattle.scmi_core.specs.Reply.{failed_answer};
 ghost use Rattle.scmi_core.specs.declared.event.Event.{Event};
 ghost use Rattle.scmi_core.specs.declared.event.Event.TheVariants.{Command as Called, Advance, Sent, CommandFailed, AdvanceFailed, Restarted};
 ghost use Rattle.scmi_c.specs.Calls.{HasHappened};
+ghost use Rattle.scmi_c.specs.Driven.{Drives, IsDriven, IsUnsaid};
 ghost use Rattle.scmi_c.specs.Standing.{IsCount, IsCounted, LacksAgent, StandsAt, board_of};
 
 use crate::refusal::Refusal;
+use crate::said::{Said, Saying};
 use scmi_codec::{Frame, Message};
 use scmi_core::{Answered, CoreError, Effect, Platform, may_change};
 use scmi_plan::Plan;
 use std::marker::Model;
 
 /// A platform, and the number of its events if they are counted: all that C can read of its
-/// history. It takes no memory, however long it runs.
+/// history. It takes no memory, however long it runs. Contracts see beside it what has been said
+/// of the hardware.
 #[derive(Drop)]
 pub struct Held {
     pub platform: Platform,
     pub events: Option<u64>,
+    pub said: Said,
 }
 
 impl Model for Held {
@@ -30,9 +35,11 @@ impl Model for Held {
 
     ghost Value = { Held };
 
-    ghost view = { λ p. record { platform = p.platform; events = p.events } };
+    ghost view = { λ p.
+        record { platform = p.platform; events = p.events; said = p.said.list } };
 
-    ghost invariant = { λ p. HasHistory (record { platform = p.platform; events = p.events }) };
+    ghost invariant = { λ p.
+        HasHistory (record { platform = p.platform; events = p.events; said = p.said.list }) };
 }
 
 impl Held {
@@ -43,11 +50,13 @@ impl Held {
         ensures board { board_of result ≡ plan }
         ensures start { StandsAt result [] }
         ensures counted { IsCounted result ↔ (is_counted ≡ true) }
+        ensures driven { IsDriven result [] }
     {
         let events = if is_counted { Some(0) } else { None };
         Held {
             platform: Platform::new(plan),
             events,
+            said: Said::nothing(),
         }
     }
 
@@ -58,6 +67,7 @@ impl Held {
         ensures answer { (h : List Event) → StandsAt self.old h →
             answer_with result reply.new ≡ answer_to (board_of self.old) agent frame.now h }
         ensures event { HasHappened self.old self.new (Called agent frame.now) }
+        ensures unsaid { IsUnsaid self.old self.new agent frame.now }
     {
         match self.platform.command(agent, frame, reply) {
             Ok(answered) => {
@@ -74,11 +84,14 @@ impl Held {
         ensures waiting { (h : List Event) → StandsAt self.old h →
             (result ≡ false) ↔ IsIdle (board_of self.old) h }
         ensures event { result ≡ true → HasHappened self.old self.new Advance }
+        ensures driven { result ≡ true → Drives self.old self.new Advance }
         ensures same { result ≡ false → self.new ≡ self.old }
     {
+        let said = self.said.and(&Saying::Completed(&self.platform));
         if !self.platform.advance() {
             return false;
         }
+        self.said = said;
         count(&mut self.events);
         true
     }
@@ -89,11 +102,14 @@ impl Held {
         ensures waiting { (h : List Event) → StandsAt self.old h →
             (result ≡ false) ↔ IsIdle (board_of self.old) h }
         ensures event { result ≡ true → HasHappened self.old self.new AdvanceFailed }
+        ensures driven { result ≡ true → Drives self.old self.new AdvanceFailed }
         ensures same { result ≡ false → self.new ≡ self.old }
     {
+        let said = self.said.and(&Saying::Failed(&self.platform));
         if !self.platform.advance_failed() {
             return false;
         }
+        self.said = said;
         count(&mut self.events);
         true
     }
@@ -102,6 +118,7 @@ impl Held {
     /// agent, and `Nothing` if its outbox is empty; then nothing changed.
     pub fn sent(&mut self, agent: u32) -> Result<(), Refusal>
         ensures event { OnOk result (HasHappened self.old self.new (Sent agent)) }
+        ensures driven { OnOk result (Drives self.old self.new (Sent agent)) }
         ensures no_agent { (result ≡ Err Refusal.NoAgent) ↔ LacksAgent agent self.old }
         ensures nothing { (h : List Event) → StandsAt self.old h →
             (result ≡ Err Refusal.Nothing) ↔ HasNothingFor (board_of self.old) agent h }
@@ -122,6 +139,7 @@ impl Held {
     /// only refusal; then nothing changed.
     pub fn restart(&mut self, agent: u32) -> Result<(), Refusal>
         ensures event { OnOk result (HasHappened self.old self.new (Restarted agent)) }
+        ensures driven { OnOk result (Drives self.old self.new (Restarted agent)) }
         ensures no_agent { (result ≡ Err Refusal.NoAgent) ↔ LacksAgent agent self.old }
         ensures errors { IfErr result (λ e. e ≡ Refusal.NoAgent) }
         ensures err { OnErr result (self.new ≡ self.old) }
@@ -155,7 +173,8 @@ impl Held {
         }
     }
 
-    /// Executes a command whose change the hardware has made; nothing is decided again.
+    /// Executes a command whose change the hardware has made, which is said of it; nothing is
+    /// decided again.
     #[inline(always)]
     pub fn commit(
         &mut self,
@@ -171,19 +190,38 @@ impl Held {
         ensures answer { (h : List Event) → StandsAt self.old h →
             answer_with result reply.new ≡ answer_to (board_of self.old) agent frame.now h }
         ensures event { HasHappened self.old self.new (Called agent frame.now) }
+        ensures driven { Drives self.old self.new (Called agent frame.now) }
+        ensures said { self.new.said ≡ self.old.said ++ Made effect ∷ [] }
     {
         let answered = self.platform.commit(agent, frame, effect, reply);
+        self.said = self.said.and(&Saying::Made(effect));
         count(&mut self.events);
         answered
     }
 
+    /// As `command_failed`, and says of the hardware that it refused the change.
+    #[inline(always)]
+    pub fn refuse(&mut self, agent: u32, frame: &Frame, effect: Effect, reply: &mut Message)
+        requires agent { IsAgent (length (board_of self.old).agents) agent }
+        requires effect { (h : List Event) → StandsAt self.old h →
+            effect_after (board_of self.old) h (Called agent frame.now) ≡ Some effect }
+        ensures answer { Reply reply.new ≡ failed_answer frame.now }
+        ensures event { HasHappened self.old self.new (CommandFailed agent frame.now) }
+        ensures driven { Drives self.old self.new (CommandFailed agent frame.now) }
+        ensures said { self.new.said ≡ self.old.said ++ Refused effect ∷ [] }
+    {
+        self.command_failed(agent, frame, reply);
+        self.said = self.said.and(&Saying::Refused(effect));
+    }
+
     /// Answers a command whose change the hardware refused by HARDWARE_ERROR.
-    pub fn command_failed(&mut self, agent: u32, frame: &Frame, reply: &mut Message)
+    fn command_failed(&mut self, agent: u32, frame: &Frame, reply: &mut Message)
         requires agent { IsAgent (length (board_of self.old).agents) agent }
         requires effect { (h : List Event) → StandsAt self.old h →
             effect_after (board_of self.old) h (Called agent frame.now) ≢ None }
         ensures answer { Reply reply.new ≡ failed_answer frame.now }
         ensures event { HasHappened self.old self.new (CommandFailed agent frame.now) }
+        ensures said { self.new.said ≡ self.old.said }
     {
         match self.platform.command_failed(agent, frame, reply) {
             Ok(()) => count(&mut self.events),

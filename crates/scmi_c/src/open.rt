@@ -2,6 +2,7 @@
 ghost use Rattle.std.specs.Prelude.{◌≡◌, ◌≢◌, ◌↔◌, ◌⊎◌, [], None, Ok, Err, IsSomeAnd, true};
 ghost use Rattle.scmi_plan.specs.Plan.{IsValid};
 ghost use Rattle.scmi_c.specs.Board.{IsFault, board_of_text};
+ghost use Rattle.scmi_c.specs.Driven.{IsDriven};
 ghost use Rattle.scmi_c.specs.Kept.{IsUnasked};
 ghost use Rattle.scmi_c.specs.Standing.{IsCounted, StandsAt, board_of};
 ghost use Rattle.scmi_c.specs.declared.code.TheConstants.{DONE, IN_USE, MEMORY};
@@ -23,6 +24,7 @@ pub extern "C" fn scmi_platform_new(alloc: Global, platform: &mut Handle, board:
         IsSomeAnd platform.new.value (λ p. IsUnasked p
         × (board_of_text board.now ≡ Ok (board_of p.held)) × StandsAt p.held []
         × IsValid (board_of p.held) × (¬ (IsCounted p.held))) }
+    ensures driven { result ≡ DONE → IsSomeAnd platform.new.value (λ p. IsDriven p.held []) }
     ensures fault { (result ≡ DONE) ⊎ (result ≡ IN_USE) ⊎ (result ≡ MEMORY)
         ⊎ (board_of_text board.now ≡ Err result) }
     ensures in_use { (result ≡ IN_USE) ↔ (platform.old.value ≢ None) }
@@ -50,6 +52,7 @@ pub extern "C" fn scmi_platform_new_recorded(
         IsSomeAnd platform.new.value (λ p. IsUnasked p
         × (board_of_text board.now ≡ Ok (board_of p.held)) × StandsAt p.held []
         × IsValid (board_of p.held) × IsCounted p.held) }
+    ensures driven { result ≡ DONE → IsSomeAnd platform.new.value (λ p. IsDriven p.held []) }
     ensures fault { (result ≡ DONE) ⊎ (result ≡ IN_USE) ⊎ (result ≡ MEMORY)
         ⊎ (board_of_text board.now ≡ Err result) }
     ensures in_use { (result ≡ IN_USE) ↔ (platform.old.value ≢ None) }
@@ -74,6 +77,7 @@ pub fn hold(alloc: Global, platform: &mut Handle, plan: Plan, is_counted: bool) 
     ensures done { result ≡ DONE →
         IsSomeAnd platform.new.value (λ p. IsUnasked p × (board_of p.held ≡ plan)
         × StandsAt p.held [] × (IsCounted p.held ↔ (is_counted ≡ true))) }
+    ensures driven { result ≡ DONE → IsSomeAnd platform.new.value (λ p. IsDriven p.held []) }
     ensures errors { (result ≡ DONE) ⊎ (result ≡ MEMORY) }
     ensures kept { result ≢ DONE → platform.new.value ≡ platform.old.value }
 {

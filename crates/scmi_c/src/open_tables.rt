@@ -1,6 +1,7 @@
 //! Platforms are made of tables.
 ghost use Rattle.std.specs.Prelude.{◌≡◌, ◌≢◌, ◌↔◌, ◌⊎◌, [], None, Ok, Err, IsSomeAnd, false};
 ghost use Rattle.scmi_plan.specs.Plan.{IsValid};
+ghost use Rattle.scmi_c.specs.Driven.{IsDriven};
 ghost use Rattle.scmi_c.specs.Kept.{IsUnasked};
 ghost use Rattle.scmi_c.specs.Standing.{IsCounted, StandsAt, board_of};
 ghost use Rattle.scmi_c.specs.Tables.{board_of_tables, is_well_formed, tables_given, IsTableFault};
@@ -35,6 +36,7 @@ pub extern "C" fn scmi_platform_new_of_tables(
         (tables_given heading.now agents.now domains.now clocks.now rates.now devices.now)
         ≡ Ok (board_of p.held)) × StandsAt p.held []
         × IsValid (board_of p.held) × (¬ (IsCounted p.held))) }
+    ensures driven { result ≡ DONE → IsSomeAnd platform.new.value (λ p. IsDriven p.held []) }
     ensures fault { (result ≡ DONE) ⊎ (result ≡ IN_USE) ⊎ (result ≡ MEMORY)
         ⊎ (board_of_tables
         (tables_given heading.now agents.now domains.now clocks.now rates.now devices.now)

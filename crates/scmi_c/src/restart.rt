@@ -3,6 +3,7 @@ ghost use Rattle.std.specs.Prelude.{◌⊎◌, ◌≡◌, ◌≢◌, ◌↔◌, 
 ghost use Rattle.scmi_core.specs.declared.event.Event.TheVariants.{Restarted};
 ghost use Rattle.scmi_c.specs.Standing.{LacksAgent};
 ghost use Rattle.scmi_c.specs.Calls.{HasHappened};
+ghost use Rattle.scmi_c.specs.Driven.{Drives};
 ghost use Rattle.scmi_c.specs.Kept.{IsAsked, IsUnasked};
 ghost use Rattle.scmi_c.specs.declared.code.TheConstants.{ASKED, DONE, NO_AGENT, NO_PLATFORM};
 
@@ -21,6 +22,9 @@ pub extern "C" fn scmi_restart(alloc: Global, platform: &mut Handle, agent: u32)
         IsSomeAnd platform.old.value (λ p.
         IsSomeAnd platform.new.value (λ k.
         IsUnasked k × HasHappened p.held k.held (Restarted agent))) }
+    ensures driven { result ≡ DONE →
+        IsSomeAnd platform.old.value (λ p.
+        IsSomeAnd platform.new.value (λ k. Drives p.held k.held (Restarted agent))) }
     ensures no_agent { (result ≡ NO_AGENT) ↔
         IsSomeAnd platform.old.value (λ p. IsUnasked p × LacksAgent agent p.held) }
     ensures asked { (result ≡ ASKED) ↔ IsSomeAnd platform.old.value IsAsked }

@@ -3,8 +3,11 @@ ghost use Rattle.std.specs.Prelude.{◌≡◌, ◌≢◌, ◌↔◌, ◌⊎◌, 
 ghost use Rattle.scmi_codec.specs.Area.{area_after_answer};
 ghost use Rattle.scmi_codec.specs.ChannelArea.{capacity, is_channel_size};
 ghost use Rattle.scmi_codec.specs.declared.frame.Answer.TheVariants as frame_answer;
+ghost use Rattle.scmi_core.specs.Asked.{Made, Refused};
 ghost use Rattle.scmi_core.specs.declared.answered.Answered.TheVariants as answered_by;
+ghost use Rattle.scmi_core.specs.declared.event.Event.TheVariants.{Command as Called, CommandFailed};
 ghost use Rattle.scmi_c.specs.Calls.{HasAnswered, HasFailed};
+ghost use Rattle.scmi_c.specs.Driven.{Drives, Says};
 ghost use Rattle.scmi_c.specs.Kept.{IsUnasked};
 
 use crate::desk::Desk;
@@ -20,6 +23,10 @@ use scmi_core::Answered;
 pub fn commit(desk: &mut Desk, area: &mut [u8]) -> Result<(), Refusal>
     ensures ok { OnOk result (IsSomeAnd desk.old.asked (λ asked.
         HasAnswered desk.old.held desk.new.held asked.agent asked.frame area.old area.new)) }
+    ensures driven { OnOk result (IsSomeAnd desk.old.asked (λ asked.
+        Drives desk.old.held desk.new.held (Called asked.agent asked.frame))) }
+    ensures said { OnOk result (IsSomeAnd desk.old.asked (λ asked.
+        Says Made asked.change desk.old.held desk.new.held)) }
     ensures unasked { OnOk result (IsUnasked desk.new) }
     ensures nothing { (result ≡ Err Refusal.Nothing) ↔ IsUnasked desk.old }
     ensures wrong_size { (result ≡ Err Refusal.WrongSize) ↔
@@ -54,6 +61,10 @@ pub fn commit(desk: &mut Desk, area: &mut [u8]) -> Result<(), Refusal>
 pub fn fail(desk: &mut Desk, area: &mut [u8]) -> Result<(), Refusal>
     ensures ok { OnOk result (IsSomeAnd desk.old.asked (λ asked.
         HasFailed desk.old.held desk.new.held asked.agent asked.frame area.old area.new)) }
+    ensures driven { OnOk result (IsSomeAnd desk.old.asked (λ asked.
+        Drives desk.old.held desk.new.held (CommandFailed asked.agent asked.frame))) }
+    ensures said { OnOk result (IsSomeAnd desk.old.asked (λ asked.
+        Says Refused asked.change desk.old.held desk.new.held)) }
     ensures unasked { OnOk result (IsUnasked desk.new) }
     ensures nothing { (result ≡ Err Refusal.Nothing) ↔ IsUnasked desk.old }
     ensures wrong_size { (result ≡ Err Refusal.WrongSize) ↔
@@ -69,9 +80,11 @@ pub fn fail(desk: &mut Desk, area: &mut [u8]) -> Result<(), Refusal>
     if area.len() != waiting.bytes {
         return Err(Refusal::WrongSize);
     }
-    desk.held.command_failed(
+    let effect = effect_of(&waiting.change);
+    desk.held.refuse(
         waiting.agent,
         &desk.exchange.frame,
+        effect,
         &mut desk.exchange.reply,
     );
     write_whole(area, Answered::Reply, &desk.exchange.reply);

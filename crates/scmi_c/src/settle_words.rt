@@ -1,5 +1,8 @@
 //! A command that was asked about is committed, or fails, and its reply is words.
 ghost use Rattle.std.specs.Prelude.{◌≡◌, ◌↔◌, ◌⊎◌, length, IfErr, IsSomeAnd, OnOk, OnErr, Err};
+ghost use Rattle.scmi_core.specs.Asked.{Made, Refused};
+ghost use Rattle.scmi_core.specs.declared.event.Event.TheVariants.{Command as Called, CommandFailed};
+ghost use Rattle.scmi_c.specs.Driven.{Drives, Says};
 ghost use Rattle.scmi_c.specs.Kept.{IsUnasked};
 ghost use Rattle.scmi_c.specs.Words.{HasAnsweredWords, HasFailedWords, LacksRoom};
 
@@ -15,6 +18,10 @@ pub fn commit(desk: &mut Desk, reply: &mut [u32], count: &mut u32) -> Result<(),
     ensures ok { OnOk result (IsSomeAnd desk.old.asked (λ asked.
         HasAnsweredWords desk.old.held desk.new.held asked.agent asked.frame
         count.new reply.old reply.new)) }
+    ensures driven { OnOk result (IsSomeAnd desk.old.asked (λ asked.
+        Drives desk.old.held desk.new.held (Called asked.agent asked.frame))) }
+    ensures said { OnOk result (IsSomeAnd desk.old.asked (λ asked.
+        Says Made asked.change desk.old.held desk.new.held)) }
     ensures unasked { OnOk result (IsUnasked desk.new) }
     ensures nothing { (result ≡ Err Refusal.Nothing) ↔ IsUnasked desk.old }
     ensures wrong_size { (result ≡ Err Refusal.WrongSize) ↔
@@ -49,6 +56,10 @@ pub fn fail(desk: &mut Desk, reply: &mut [u32], count: &mut u32) -> Result<(), R
     ensures ok { OnOk result (IsSomeAnd desk.old.asked (λ asked.
         HasFailedWords desk.old.held desk.new.held asked.agent asked.frame
         count.new reply.old reply.new)) }
+    ensures driven { OnOk result (IsSomeAnd desk.old.asked (λ asked.
+        Drives desk.old.held desk.new.held (CommandFailed asked.agent asked.frame))) }
+    ensures said { OnOk result (IsSomeAnd desk.old.asked (λ asked.
+        Says Refused asked.change desk.old.held desk.new.held)) }
     ensures unasked { OnOk result (IsUnasked desk.new) }
     ensures nothing { (result ≡ Err Refusal.Nothing) ↔ IsUnasked desk.old }
     ensures wrong_size { (result ≡ Err Refusal.WrongSize) ↔
@@ -65,9 +76,11 @@ pub fn fail(desk: &mut Desk, reply: &mut [u32], count: &mut u32) -> Result<(), R
     if reply.len() < 1 + channel_words(waiting.bytes) {
         return Err(Refusal::WrongSize);
     }
-    desk.held.command_failed(
+    let effect = effect_of(&waiting.change);
+    desk.held.refuse(
         waiting.agent,
         &desk.exchange.frame,
+        effect,
         &mut desk.exchange.reply,
     );
     *count = put_message(reply, &desk.exchange.reply);

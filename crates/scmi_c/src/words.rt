@@ -9,6 +9,7 @@ ghost use Rattle.scmi_core.specs.declared.event.Event.{Event};
 ghost use Rattle.scmi_core.specs.declared.event.Event.TheVariants.{Command as Called};
 ghost use Rattle.scmi_c.specs.Calls.{IsAskedAbout};
 ghost use Rattle.scmi_c.specs.Channel.{bytes_of};
+ghost use Rattle.scmi_c.specs.Driven.{Drives, IsUnsaid};
 ghost use Rattle.scmi_c.specs.Standing.{LacksAgent, StandsAt, board_of};
 ghost use Rattle.scmi_c.specs.Words.{FitsWords, HasAnsweredWords, LacksWords, count_of, frame_in, words_after};
 
@@ -62,6 +63,7 @@ pub fn answer(
     requires valid { IsValid (board_of held.old) }
     ensures answered { HasAnsweredWords held.old held.new agent (frame_in message.now)
         count.new reply.old reply.new }
+    ensures unsaid { IsUnsaid held.old held.new agent (frame_in message.now) }
 {
     read_words(message, &mut exchange.frame);
     execute(held, exchange, agent, message, reply, count);
@@ -69,6 +71,7 @@ pub fn answer(
 
 /// Executes the words of a message, as `answer`, if they change no hardware. Else gives what they
 /// are to change, and keeps them. It is refused as `Held::check_words` says, and nothing changed.
+#[tactic(auto, using(crate::proofs::Driving::drives_none))]
 #[inline(always)]
 pub fn ask(
     held: &mut Held,
@@ -83,6 +86,8 @@ pub fn ask(
         ≡ effect_after (board_of held.old) h (Called agent (frame_in message.now))) }
     ensures answered { result ≡ Ok None → HasAnsweredWords held.old held.new agent
         (frame_in message.now) count.new reply.old reply.new }
+    ensures driven { result ≡ Ok None
+        → Drives held.old held.new (Called agent (frame_in message.now)) }
     ensures asked { IfOk result (λ effect. effect ≢ None →
         (exchange.new.frame ≡ frame_in message.now) × (reply.new ≡ reply.old)
         × (count.new ≡ count.old) × IsAskedAbout held.old held.new agent) }
@@ -118,6 +123,7 @@ fn execute(
     requires frame { exchange.old.frame ≡ frame_in message.now }
     ensures answered { HasAnsweredWords held.old held.new agent (frame_in message.now)
         count.new reply.old reply.new }
+    ensures unsaid { IsUnsaid held.old held.new agent (frame_in message.now) }
 {
     let _ = held.command(agent, &exchange.frame, &mut exchange.reply);
     *count = put_words(reply, message[0], exchange.reply.payload.as_slice());

@@ -1,31 +1,32 @@
 use Rattle.std.proofs.Common.{rules, ◌≡◌, ◌≤◌, ◌+◌, length, refl, subst, ap, arith}
 use Rattle.scmi_codec.specs.ChannelArea.{channel_words}
 use Rattle.scmi_codec.specs.Header.{header_word}
-use Rattle.scmi_c.specs.Kept.{Asked, IsAskable, Kept}
+use Rattle.scmi_c.specs.Kept.{Asked, IsAskable, Kept, asked_of}
 use Rattle.scmi_c.specs.Standing.{Held, board_of}
 use Rattle.scmi_c.proofs.Answering.{some-and}
-use Rattle.scmi_c.proofs.Keeping.{effect-is, effect-some, kept-of}
+use Rattle.scmi_c.proofs.Keeping.{effect-is, effect-numbers, effect-some, kept-of}
 use Rattle.scmi_c.proofs.WordReplies.{asked-replied, written-answer}
 use Rattle.scmi_c.proofs.settle_words.commit.Goals as goal
 
 pub channel_words-requires : goal.channel_words-requires
 channel_words-requires c =
-    record { size = (kept-of (IsAskable c.desk.inside.held c.desk.inside.waiting.change) c.desk.inside.exchange.frame c.desk.inside.waiting (search rules) c.desk.invariant).size }
+    record { size = (kept-of (IsAskable c.desk.inside.held) c.desk.inside.exchange.frame c.desk.inside.waiting (search rules) c.desk.invariant).size }
 
 pub commit-requires-clause-effect : goal.commit-requires-clause-effect
 commit-requires-clause-effect c =
     let waiting = c.desk.inside.waiting in
-    let may = kept-of (IsAskable c.desk.inside.held waiting.change) c.desk.inside.exchange.frame waiting (search rules) c.desk.invariant in
-    λ h at. effect-is _ waiting.change c.effect_of-effect.result c.effect_of-effect.ensures (may.effect h at)
+    let frame = c.desk.inside.exchange.frame in
+    let may = kept-of (IsAskable c.desk.inside.held) frame waiting (search rules) c.desk.invariant in
+    effect-is c.desk.inside.held (asked_of frame waiting) c.effect_of-effect.result may c.effect_of-effect.ensures
 
 pub returns-clause-ok : goal.returns-clause-ok
 returns-clause-ok c =
     let frame = c.desk.inside.exchange.frame in
     let waiting = c.desk.inside.waiting in
-    let asked : Asked = record { agent = waiting.agent; frame = frame; bytes = waiting.bytes } in
+    let asked : Asked = asked_of frame waiting in
     let same : c.desk.inside.held ≡ c.args.desk.now.held = ap (λ (k : Kept). k.held) c.desk.view_is in
-    let may : IsAskable c.args.desk.now.held waiting.change asked =
-    subst (λ (p : Held). IsAskable p waiting.change asked) same (kept-of (IsAskable c.desk.inside.held waiting.change) frame waiting (search rules) c.desk.invariant) in
+    let may : IsAskable c.args.desk.now.held asked =
+    subst (λ (p : Held). IsAskable p asked) same (kept-of (IsAskable c.desk.inside.held) frame waiting (search rules) c.desk.invariant) in
     let board = board_of c.args.desk.now.held in
     let few = may.words in
     let wide : 1 + channel_words waiting.bytes ≤ length c.args.reply.now = search rules in
@@ -34,7 +35,24 @@ returns-clause-ok c =
       answer = λ h at.
           written-answer board waiting.agent h frame c.commit.result c.commit.new.reply (header_word c.commit.new.reply.header) c.put_message.result c.args.reply.now c.put_message.new.words
           (search rules) (omega (arith, few, wide)) (search rules)
-          (asked-replied board waiting.agent h frame (effect-some _ waiting.change (may.effect h at))) (λ is. refl)
+          (asked-replied board waiting.agent h frame (effect-some _ may.change (may.effect h at))) (λ is. refl)
           c.put_message.ensures.count c.put_message.ensures.written;
       event = search rules;
+    })
+
+pub returns-clause-driven : goal.returns-clause-driven
+returns-clause-driven c =
+    some-and c.args.desk.now.asked (asked_of c.desk.inside.exchange.frame c.desk.inside.waiting) _ (search rules) (search rules)
+
+pub returns-clause-said : goal.returns-clause-said
+returns-clause-said c =
+    let frame = c.desk.inside.exchange.frame in
+    let waiting = c.desk.inside.waiting in
+    let asked : Asked = asked_of frame waiting in
+    let may = kept-of (IsAskable c.desk.inside.held) frame waiting (search rules) c.desk.invariant in
+    some-and c.args.desk.now.asked asked _ (search rules)
+    (record {
+      effect = c.effect_of-effect.result;
+      numbers = effect-numbers c.desk.inside.held asked c.effect_of-effect.result may c.effect_of-effect.ensures;
+      said = search rules;
     })

@@ -1,24 +1,48 @@
 use Rattle.std.proofs.Common.{rules, ◌≡◌, ◌≤◌, ◌+◌, length}
 use Rattle.scmi_codec.specs.ChannelArea.{channel_words}
-use Rattle.scmi_c.specs.Kept.{Asked, IsAskable}
+use Rattle.scmi_c.specs.Kept.{Asked, IsAskable, asked_of}
 use Rattle.scmi_c.proofs.Answering.{some-and}
-use Rattle.scmi_c.proofs.Keeping.{kept-of}
+use Rattle.scmi_c.proofs.Keeping.{effect-is, effect-numbers, kept-of}
 use Rattle.scmi_c.proofs.WordReplies.{failed-written, some-room}
 use Rattle.scmi_c.proofs.settle_words.fail.Goals as goal
 
 pub channel_words-requires : goal.channel_words-requires
 channel_words-requires c =
-    record { size = (kept-of (IsAskable c.desk.inside.held c.desk.inside.waiting.change) c.desk.inside.exchange.frame c.desk.inside.waiting (search rules) c.desk.invariant).size }
+    record { size = (kept-of (IsAskable c.desk.inside.held) c.desk.inside.exchange.frame c.desk.inside.waiting (search rules) c.desk.invariant).size }
+
+pub refuse-requires-clause-effect : goal.refuse-requires-clause-effect
+refuse-requires-clause-effect c =
+    let waiting = c.desk.inside.waiting in
+    let frame = c.desk.inside.exchange.frame in
+    let may = kept-of (IsAskable c.desk.inside.held) frame waiting (search rules) c.desk.invariant in
+    effect-is c.desk.inside.held (asked_of frame waiting) c.effect_of-effect.result may c.effect_of-effect.ensures
 
 pub returns-clause-ok : goal.returns-clause-ok
 returns-clause-ok c =
     let frame = c.desk.inside.exchange.frame in
     let waiting = c.desk.inside.waiting in
-    let asked : Asked = record { agent = waiting.agent; frame = frame; bytes = waiting.bytes } in
-    let may = kept-of (IsAskable c.desk.inside.held waiting.change) frame waiting (search rules) c.desk.invariant in
+    let asked : Asked = asked_of frame waiting in
+    let may = kept-of (IsAskable c.desk.inside.held) frame waiting (search rules) c.desk.invariant in
     let wide : 1 + channel_words waiting.bytes ≤ length c.args.reply.now = search rules in
     some-and c.args.desk.now.asked asked _ (search rules)
     (record {
-      answer = failed-written frame c.command_failed.new.reply c.put_message.result c.args.reply.now c.put_message.new.words (search rules) (some-room waiting.bytes (length c.args.reply.now) may.size wide) c.put_message.ensures.count c.put_message.ensures.written;
+      answer = failed-written frame c.refuse.new.reply c.put_message.result c.args.reply.now c.put_message.new.words (search rules) (some-room waiting.bytes (length c.args.reply.now) may.size wide) c.put_message.ensures.count c.put_message.ensures.written;
       event = search rules;
+    })
+
+pub returns-clause-driven : goal.returns-clause-driven
+returns-clause-driven c =
+    some-and c.args.desk.now.asked (asked_of c.desk.inside.exchange.frame c.desk.inside.waiting) _ (search rules) (search rules)
+
+pub returns-clause-said : goal.returns-clause-said
+returns-clause-said c =
+    let frame = c.desk.inside.exchange.frame in
+    let waiting = c.desk.inside.waiting in
+    let asked : Asked = asked_of frame waiting in
+    let may = kept-of (IsAskable c.desk.inside.held) frame waiting (search rules) c.desk.invariant in
+    some-and c.args.desk.now.asked asked _ (search rules)
+    (record {
+      effect = c.effect_of-effect.result;
+      numbers = effect-numbers c.desk.inside.held asked c.effect_of-effect.result may c.effect_of-effect.ensures;
+      said = search rules;
     })

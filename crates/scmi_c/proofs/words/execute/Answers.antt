@@ -5,8 +5,8 @@ use Rattle.scmi_c.specs.Words.{frame_in}
 use Rattle.scmi_c.proofs.WordReplies.{fitting-replied, words-header, written-answer}
 use Rattle.scmi_c.proofs.words.execute.Goals as goal
 
-pub returns : goal.returns
-returns c =
+pub returns-clause-answered : goal.returns-clause-answered
+returns-clause-answered c =
     let board = board_of c.args.held.now in
     let agent = c.args.agent in
     let message : List ℕ = c.args.message.now in
@@ -20,14 +20,12 @@ returns c =
     let after = c.put_words.new.words in
     let same : c.as_slice.result.now ≡ c.command.new.reply.payload.items = search rules in
     record {
-      answered = record {
-        answer = λ h at.
-            written-answer board agent h (frame_in message) c.command.result c.command.new.reply header count before after
-            c.requires.valid (omega (arith, enough)) (search rules)
-            (fitting-replied board agent h (message_of header payload) (omega (arith, few, length-drop 1 message)))
-            (words-header board agent h header payload c.command.new.reply (search rules))
-            (subst (λ (items : List ℕ). length items < length before → count ≡ 1 + length items) same c.put_words.ensures.count)
-            (subst (λ (items : List ℕ). length items < length before → after ≡ (header ∷ items) ++ drop (1 + length items) before) same c.put_words.ensures.written);
-        event = search rules;
-      };
+      answer = λ h at.
+          written-answer board agent h (frame_in message) c.command.result c.command.new.reply header count before after
+          c.requires.valid (omega (arith, enough)) (search rules)
+          (fitting-replied board agent h (message_of header payload) (omega (arith, few, length-drop 1 message)))
+          (words-header board agent h header payload c.command.new.reply (search rules))
+          (subst (λ (items : List ℕ). length items < length before → count ≡ 1 + length items) same c.put_words.ensures.count)
+          (subst (λ (items : List ℕ). length items < length before → after ≡ (header ∷ items) ++ drop (1 + length items) before) same c.put_words.ensures.written);
+      event = search rules;
     }

@@ -1,0 +1,7 @@
+use Rattle.std.proofs.Common.{rules, ap}
+use Rattle.scmi_c.specs.Standing.{Held}
+use Rattle.scmi_c.proofs.Driving.{is_unsaid}
+use Rattle.scmi_c.proofs.held.Held.command.Goals as goal
+
+pub returns-in-Ok-clause-unsaid : goal.returns-in-Ok-clause-unsaid
+returns-in-Ok-clause-unsaid c = is_unsaid c.args.self.now _ c.args.agent c.args.frame.now (search rules) (ap (λ (p : Held). p.said) c.self.view_is)

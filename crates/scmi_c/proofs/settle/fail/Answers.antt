@@ -1,0 +1,29 @@
+use Rattle.std.proofs.Common.{rules}
+use Rattle.scmi_c.specs.Kept.{Asked, IsAskable, asked_of}
+use Rattle.scmi_c.proofs.Answering.{some-and}
+use Rattle.scmi_c.proofs.Keeping.{effect-is, effect-numbers, kept-of}
+use Rattle.scmi_c.proofs.settle.fail.Goals as goal
+
+pub refuse-requires-clause-effect : goal.refuse-requires-clause-effect
+refuse-requires-clause-effect c =
+    let waiting = c.desk.inside.waiting in
+    let frame = c.desk.inside.exchange.frame in
+    let may = kept-of (IsAskable c.desk.inside.held) frame waiting (search rules) c.desk.invariant in
+    effect-is c.desk.inside.held (asked_of frame waiting) c.effect_of-effect.result may c.effect_of-effect.ensures
+
+pub returns-clause-driven : goal.returns-clause-driven
+returns-clause-driven c =
+    some-and c.args.desk.now.asked (asked_of c.desk.inside.exchange.frame c.desk.inside.waiting) _ (search rules) (search rules)
+
+pub returns-clause-said : goal.returns-clause-said
+returns-clause-said c =
+    let frame = c.desk.inside.exchange.frame in
+    let waiting = c.desk.inside.waiting in
+    let asked : Asked = asked_of frame waiting in
+    let may = kept-of (IsAskable c.desk.inside.held) frame waiting (search rules) c.desk.invariant in
+    some-and c.args.desk.now.asked asked _ (search rules)
+    (record {
+      effect = c.effect_of-effect.result;
+      numbers = effect-numbers c.desk.inside.held asked c.effect_of-effect.result may c.effect_of-effect.ensures;
+      said = search rules;
+    })
