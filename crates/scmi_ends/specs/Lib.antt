@@ -1,6 +1,7 @@
 pub mod Each
 pub mod AgentView
 pub mod ControllerView
+pub mod Life
 pub mod Links
 pub mod Agreement
 pub mod Poll

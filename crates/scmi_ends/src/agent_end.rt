@@ -1,5 +1,5 @@
 //! The agent's side of its two channels.
-ghost use Rattle.std.specs.Prelude.{◌≡◌, ◌+◌, ◌%◌, ◌<◌, ◌++◌, ◌∷◌, ◌↔◌, [], true, false, IfOk, OnErr, OnOk};
+ghost use Rattle.std.specs.Prelude.{◌≡◌, ◌+◌, ◌%◌, ◌<◌, ◌++◌, ◌∷◌, ◌↔◌, [], true, false, IfOk, IfErr, OnErr, OnOk};
 ghost use Rattle.scmi_codec.specs.Area.{is_well_formed};
 ghost use Rattle.scmi_codec.specs.declared.frame.Frame.TheVariants.{Good, Malformed};
 ghost use Rattle.scmi_codec.specs.declared.frame.Answer.TheVariants.{Released};
@@ -26,12 +26,15 @@ pub struct AgentEnd<C: Channel> {
     callee: C::Callee,
     id: u32,
     token: u16,
+    // Whether a command is outstanding.
+    waits: bool,
 }
 
 impl<C: Channel> Model for AgentEnd<C> {
     ghost use Rattle.std.specs.Prelude.{◌≡◌, ◌<◌, length};
     ghost use Rattle.scmi_codec.specs.declared.header.TheConstants.{TOKENS};
     ghost use Rattle.scmi_ends.specs.AgentView.{AgentView};
+    ghost use Rattle.scmi_ends.specs.Life.{KnowsOutstanding};
 
     ghost Value = { AgentView };
 
@@ -47,11 +50,13 @@ impl<C: Channel> Model for AgentEnd<C> {
     // It owes no release.
     ghost invariant = { λ agent. (agent.token < TOKENS) ×
         (length (C.callee_view agent.callee).taken ≡ length
-        (C.callee_view agent.callee).answered) };
+        (C.callee_view agent.callee).answered) ×
+        KnowsOutstanding agent.waits (C.caller_view agent.caller) };
 }
 
 impl<C: Channel> AgentEnd<C> {
     ghost use Rattle.scmi_ends.specs.AgentView.{IsOfLink, IsNewAgent};
+    ghost use Rattle.scmi_ends.specs.Life.{BeginsAgain, StillWaits};
     ghost use Rattle.scmi_ends.specs.Poll.{Receives};
 
     pub(crate) fn new(caller: C::Caller, callee: C::Callee, id: u32) -> AgentEnd<C>
@@ -65,6 +70,7 @@ impl<C: Channel> AgentEnd<C> {
             callee,
             id,
             token: 0,
+            waits: false,
         }
     }
 
@@ -112,6 +118,7 @@ impl<C: Channel> AgentEnd<C> {
         let token = self.token;
         let header = Header::command(protocol, token, id);
         link.a2p.post_parts(&mut self.caller, header, payload)?;
+        self.waits = true;
         self.token = (token + 1) % TOKENS;
         Ok(token)
     }
@@ -123,7 +130,9 @@ impl<C: Channel> AgentEnd<C> {
         ensures same { self.new ≡ record self.old { caller = self.new.caller } }
         ensures posts { Posts C.FULL self.old.caller (Good message.now) result self.new.caller }
     {
-        link.a2p.post(&mut self.caller, message)
+        link.a2p.post(&mut self.caller, message)?;
+        self.waits = true;
+        Ok(())
     }
 
     /// Posts a frame on A2P whose length in bytes is not well formed (own).
@@ -144,7 +153,9 @@ impl<C: Channel> AgentEnd<C> {
         ensures posts { is_well_formed length ≡ false
             → Posts C.FULL self.old.caller (Malformed length header) result self.new.caller }
     {
-        link.a2p.post_malformed(&mut self.caller, length, header)
+        link.a2p.post_malformed(&mut self.caller, length, header)?;
+        self.waits = true;
+        Ok(())
     }
 
     /// Polls once for the answer to the post on A2P; an answer that waits is given first.
@@ -158,7 +169,9 @@ impl<C: Channel> AgentEnd<C> {
         ensures known { knows_close self.old.caller ≡ true → ¬ (IsOutstanding self.old.caller) →
             result ≡ Collected.Closed }
     {
-        link.a2p.collect(&mut self.caller)
+        let collected = link.a2p.collect(&mut self.caller);
+        self.waits = self.waits && matches!(collected, Collected::Nothing);
+        collected
     }
 
     /// Polls once for the answer to the post on A2P, as `collect`, and reads it into `answer`,
@@ -172,7 +185,9 @@ impl<C: Channel> AgentEnd<C> {
         ensures known { knows_close self.old.caller ≡ true → ¬ (IsOutstanding self.old.caller) →
             result ≡ Looked.Closed }
     {
-        link.a2p.collect_into(&mut self.caller, answer)
+        let looked = link.a2p.collect_into(&mut self.caller, answer);
+        self.waits = self.waits && matches!(looked, Looked::Nothing);
+        looked
     }
 
     /// Takes the platform's message off P2A, if one is posted, and releases it at once. `None` if
@@ -220,7 +235,28 @@ impl<C: Channel> AgentEnd<C> {
     {
         let closing = link.a2p.close_caller(&mut self.caller)?;
         link.p2a.close_callee(&mut self.callee)?;
+        self.waits = false;
         Ok(closing)
+    }
+
+    /// Makes this end that of the agent's next life, once it restarted, with 0 as the first token.
+    ///
+    /// It polls once on A2P and once on P2A, and throws away what is there: an answer to the life
+    /// before, and a message. While a command of that life is outstanding the error hands the end
+    /// back as it is then, so that no later life reads the answer; it may be tried again. An end
+    /// that knows of a close still knows of it. `Controller::restart` ends what the agent asked for.
+    pub fn restart(mut self, link: &Link<C>) -> Result<AgentEnd<C>, AgentEnd<C>>
+        requires { IsOfLink (C.identity link.now.a2p) (C.identity link.now.p2a) self }
+        ensures ok { IfOk result (λ next. BeginsAgain self next) }
+        ensures err { IfErr result (λ stays. StillWaits self stays) }
+    {
+        let _answer = self.collect(link);
+        let _message = self.next_p2a(link);
+        if self.waits {
+            return Err(self);
+        }
+        self.token = 0;
+        Ok(self)
     }
 }
 

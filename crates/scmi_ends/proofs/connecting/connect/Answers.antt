@@ -1,4 +1,4 @@
-use Rattle.std.proofs.Common.{◌≡◌, ◌+◌, None, length, replicate, arith, ◌∙◌, ap, map}
+use Rattle.std.proofs.Common.{◌≡◌, ◌+◌, None, length, replicate, arith, ◌∙◌, ap, map, refl}
 use Rattle.scmi_link.specs.View.{new_caller, new_callee}
 use Rattle.scmi_ends.specs.AgentView.{IsNewAgent}
 use Rattle.scmi_ends.specs.Agreement.{EndsAgree}
@@ -39,7 +39,15 @@ invariant_of-result g c = keeps g (goal.at.invariant_of-result g c).After-loop-i
 pub returns-clause-agrees : goal.returns-clause-agrees
 returns-clause-agrees g c = keeps g (goal.at.returns-clause-agrees g c).After-loop-index
 
+-- each agent of the board was made
+all_made : (g : _) (c : After-loop-index g) → c.loop-index.index ≡ length c.args.core.board.agents
+all_made g c = omega (arith, c.loop-index-test.false, c.agents-index-end.ensures, c.loop-index.auto.index-end)
+
+pub returns-clause-controller : goal.returns-clause-controller
+returns-clause-controller g c =
+    let all = all_made g (goal.at.returns-clause-controller g c).After-loop-index in
+    let kept = c.loop-index.invariant in
+    (refl, c.requires, kept.callees ∙ ap (λ k. replicate k new_callee) all, kept.callers ∙ ap (λ k. replicate k new_caller) all)
+
 pub returns-clause-closed_at : goal.returns-clause-closed_at
-returns-clause-closed_at g c =
-    let all : c.loop-index.index ≡ length c.args.core.board.agents = omega (arith, c.loop-index-test.false, c.agents-index-end.ensures, c.loop-index.auto.index-end) in
-    c.loop-index.invariant.closed_at ∙ ap (λ k. replicate k None) all
+returns-clause-closed_at g c = c.loop-index.invariant.closed_at ∙ ap (λ k. replicate k None) (all_made g (goal.at.returns-clause-closed_at g c).After-loop-index)
