@@ -9,12 +9,10 @@ use Rattle.scmi_io.specs.Lines.{is_line_feed, first_line, after_line, has_line_f
 use Rattle.scmi_link.specs.View.{CallerView}
 use Rattle.scmi_link.specs.declared.closing.Closing.{Closing}
 use Rattle.scmi_link.specs.declared.close_error.CloseError.{CloseError}
-use Rattle.scmi_board.specs.BoardLines.{Described, with_board_line}
-use Rattle.scmi_board.specs.BoardLines as board_lines
+use Rattle.scmi_board.specs.BoardLines.{Described}
 use Rattle.scmi_board.specs.ValidBoard.{with_its_lines}
-use Rattle.scmi_board.specs.declared.board_line.BoardLine.{BoardLine}
-use Rattle.scmi_board.specs.declared.board_line.BoardLine.TheVariants as said_line
 use Rattle.scmi_plan.specs.Board.{Board}
+use Rattle.scmi_session.proofs.BoardAgents.{agents_kept}
 use Rattle.scmi_session.specs.Run.{AllSteps, IsGathered, IsNewSession}
 use Rattle.scmi_session.specs.SessionView.{SessionView}
 use Rattle.scmi_text.specs.declared.step.Step.{Step}
@@ -97,16 +95,6 @@ module _ (full : Bool) (Shows : CallerView → Result Closing CloseError → Typ
   IsUnderWay said None left live old now = Unit {0}
   IsUnderWay said (Some input) None live old now = ⊥
   IsUnderWay said (Some input) (Some rest) live old now = IsOnItsWay said input rest live old now
-
-  -- what lines say leaves a board's agents as they are
-  line_agents : (board : Board) (line : BoardLine) → (with_board_line board line).agents ≡ board.agents
-  line_agents board (said_line.Channel line) = refl
-  line_agents board (said_line.Keep resource) = refl
-  line_agents board (said_line.Deny line) = refl
-
-  agents_kept : (board : Board) (lines : List BoardLine) → (board_lines.with_lines board lines).agents ≡ board.agents
-  agents_kept board [] = refl
-  agents_kept board (line ∷ lines) = agents_kept (with_board_line board line) lines ∙ line_agents board line
 
   begun : (said : Described) (b : Board) (agents : ℕ) (session : SessionView) (input : List ℕ) (old end : Option (List Heard)) → b ≡ said.0 → agents ≡ length said.0.agents → IsNewSession (with_its_lines said) session
       → IsRest (steps_of b agents (slice_split is_line_feed input)) session old end → IsSession full Shows said input old end

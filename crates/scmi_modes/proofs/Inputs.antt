@@ -2,10 +2,8 @@
 use Rattle.std.proofs.Common.{ℕ, ◌^◌, ◌<◌, ◌≤◌, ◌≡◌, ◌≢◌, nat_le, Bool, true, false, cond, List, [], ◌∷◌, length, Option, Some, None, IfSome, IfErr, Result, Ok, Err, refl, sym, ap, ◌∙◌, ◌⊎◌, inl, inr, subst, arith}
 use Rattle.std.proofs.lemmas.Bool.Decides.{nat_tests}
 use Rattle.scmi_board.specs.BoardText.{FailsBoard}
-use Rattle.scmi_board.specs.BoardLines.{Described, with_board_line, with_lines}
+use Rattle.scmi_board.specs.BoardLines.{Described, with_lines}
 use Rattle.scmi_board.specs.Lines.{Line, LinesView}
-use Rattle.scmi_board.specs.declared.board_line.BoardLine.{BoardLine}
-use Rattle.scmi_board.specs.declared.board_line.BoardLine.TheVariants as said_line
 use Rattle.scmi_board.specs.declared.text_error.TextError.{TextError}
 use Rattle.scmi_board.specs.declared.text_error.TextError.TheVariants as text
 use Rattle.scmi_io.specs.declared.input.TheConstants.{INPUT_BYTES}
@@ -33,16 +31,6 @@ known_so (Some bytes) holds then = then bytes holds
 -- a board whose agents are counted
 pub few_agents : (n m : ℕ) → (2 ^ 32 ≤ n → ⊥) → m ≡ n → m < 2 ^ 32
 few_agents n m not_many same = omega (arith, not_many, same)
-
--- what lines say leaves a board's agents as they are
-line_agents : (board : Board) (line : BoardLine) → (with_board_line board line).agents ≡ board.agents
-line_agents board (said_line.Channel line) = refl
-line_agents board (said_line.Keep resource) = refl
-line_agents board (said_line.Deny line) = refl
-
-pub agents_kept : (board : Board) (lines : List BoardLine) → (with_lines board lines).agents ≡ board.agents
-agents_kept board [] = refl
-agents_kept board (line ∷ lines) = agents_kept (with_board_line board line) lines ∙ line_agents board line
 
 -- a board without channels fails as its lines do
 pub plain_fails : (error : TextError) (there : Result (Board × List Line) ℕ) → FailsBoard error there → FailsBoard error (without_lines there)

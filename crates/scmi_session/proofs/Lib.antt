@@ -1,3 +1,4 @@
+pub mod BoardAgents
 mod DroppedSince
 pub mod Lines
 pub mod Plain
