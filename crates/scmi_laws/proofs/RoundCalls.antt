@@ -34,7 +34,7 @@ use Rattle.scmi_ends.specs.ControllerView.{ControllerView, callee_of, caller_of}
 use Rattle.scmi_ends.specs.Each.{AllFrom}
 use Rattle.scmi_ends.specs.Flush.{Flushes, FlushesOne}
 use Rattle.scmi_ends.specs.ServeOn.{ServesOn, ServesOneOn}
-use Rattle.scmi_laws.specs.Round.{AtMostOneEach, EndsFirst, GoesOn, GoesOnFairly, HasPostedAll, IsCommand, IsFlushedOnce, IsOrderly, IsPosting, IsServedOnce, IsWaiting}
+use Rattle.scmi_laws.specs.Round.{AddsAtMostOneEach, AddsFairly, AtMostOneEach, EndsFirst, HasPostedAll, IsCommand, IsFlushedOnce, IsOrderly, IsPosting, IsServedOnce, IsWaiting}
 use Rattle.scmi_laws.proofs.Events.{sent}
 
 -- AT MOST ONE EVENT OF EACH AGENT
@@ -66,25 +66,25 @@ module _ (IsOf : ℕ → Event → Type 0) where
       let rest : length es + (a + 1) ≤ end = each-few (a + 1) end es (omega arith) had.4 in
       omega arith
 
-  -- a history goes on with one more
-  pub on-more : (end : ℕ) (h k h' : List Event) → 1 ≤ end → GoesOn IsOf end h k → (e : Event)
-      → IsOf end e → h' ≡ k ++ e ∷ [] → GoesOn IsOf (end + 1) h h'
+  -- one more is added to a history
+  pub on-more : (end : ℕ) (h k h' : List Event) → 1 ≤ end → AddsAtMostOneEach IsOf end h k
+      → (e : Event) → IsOf end e → h' ≡ k ++ e ∷ [] → AddsAtMostOneEach IsOf (end + 1) h h'
   on-more end h k h' le had e is same = record {
     events = had.events ++ e ∷ [];
     history = same ∙ ap (λ xs. xs ++ e ∷ []) had.history ∙ append_assoc h had.events (e ∷ []);
     one_each = each-push 1 end had.events e le had.one_each is;
   }
 
-  -- or with none
-  pub on-same : (end wider : ℕ) (h k h' : List Event) → end ≤ wider → GoesOn IsOf end h k → h' ≡ k
-      → GoesOn IsOf wider h h'
+  -- or none
+  pub on-same : (end wider : ℕ) (h k h' : List Event) → end ≤ wider
+      → AddsAtMostOneEach IsOf end h k → h' ≡ k → AddsAtMostOneEach IsOf wider h h'
   on-same end wider h k h' le had same = record {
     events = had.events;
     history = same ∙ had.history;
     one_each = each-wider 1 end wider had.events le had.one_each;
   }
 
-  pub on-none : (end : ℕ) (h : List Event) → GoesOn IsOf end h h
+  pub on-none : (end : ℕ) (h : List Event) → AddsAtMostOneEach IsOf end h h
   on-none end h = record { events = []; history = sym (append-nil h); one_each = tt }
 
 -- AN AGENT IS SERVED
@@ -159,13 +159,13 @@ module _ (a : ℕ) (c c' : ControllerView) (asked asked' : List Asked → Type 0
       ap (λ v. callee_of v b) s.same
       ∙ get_or-set_other c.callees (a - 1) (b - 1) s.callee new_callee places
 
-  pub serves-on : (h : List Event) → GoesOn IsCommand a h c.history
-      → GoesOn IsCommand (a + 1) h c'.history
+  pub serves-on : (h : List Event) → AddsAtMostOneEach IsCommand a h c.history
+      → AddsAtMostOneEach IsCommand (a + 1) h c'.history
   serves-on h had = by r s.step
     where
       by : (r : Served)
           → ServesOneOn c.board a c.history asked (callee_of c a) r c'.history asked' s.callee
-          → GoesOn IsCommand (a + 1) h c'.history
+          → AddsAtMostOneEach IsCommand (a + 1) h c'.history
       by served.Nothing t =
           on-same IsCommand a (a + 1) h c.history c'.history (omega arith) had t.0
       by served.Done t =
@@ -343,13 +343,13 @@ module _ (full : Bool) (a : ℕ) (c c' : ControllerView) (r : Flushed) (s : Flus
       ap (λ v. caller_of v b) s.same
       ∙ get_or-set_other c.callers (a - 1) (b - 1) s.caller new_caller places
 
-  pub flushes-on : (h : List Event) → GoesOn IsPosting a h c.history
-      → GoesOn IsPosting (a + 1) h c'.history
+  pub flushes-on : (h : List Event) → AddsAtMostOneEach IsPosting a h c.history
+      → AddsAtMostOneEach IsPosting (a + 1) h c'.history
   flushes-on h had = by r s.step.step
     where
       by : (r : Flushed)
           → FlushesOne full c.board a c.history s.step.collected r c'.history s.caller
-          → GoesOn IsPosting (a + 1) h c'.history
+          → AddsAtMostOneEach IsPosting (a + 1) h c'.history
       by flushed.Waiting t =
           on-same IsPosting a (a + 1) h c.history c'.history (omega arith) had t.0
       by flushed.Nothing t =
@@ -531,8 +531,8 @@ ends-one board h h' asked asked' happens = record {
   each = All-cons IsEnd happens.event [] happens.is_one (All-nil IsEnd);
 }
 
-pub fairly : (agents : ℕ) (h k l h' : List Event) → GoesOn IsCommand (agents + 1) h k → EndsOne k l
-    → GoesOn IsPosting (agents + 1) l h' → GoesOnFairly agents h h'
+pub fairly : (agents : ℕ) (h k l h' : List Event) → AddsAtMostOneEach IsCommand (agents + 1) h k
+    → EndsOne k l → AddsAtMostOneEach IsPosting (agents + 1) l h' → AddsFairly agents h h'
 fairly agents h k l h' commands ends postings = record {
   commands = commands.events;
   ends = ends.ends;
@@ -548,7 +548,7 @@ fairly agents h k l h' commands ends postings = record {
   one_posting_each = postings.one_each;
 }
 
-pub fair-bound : (agents : ℕ) (h h' : List Event) → GoesOnFairly agents h h'
+pub fair-bound : (agents : ℕ) (h h' : List Event) → AddsFairly agents h h'
     → length h' ≤ length h + (2 * agents + 1)
 fair-bound agents h h' fair =
     let commands : length fair.commands + 1 ≤ agents + 1
@@ -566,14 +566,14 @@ fair-bound agents h h' fair =
     )
 
 -- the part of a round up to where it is cut off, or as a whole
-pub fair-served : (agents : ℕ) (h h' : List Event) → GoesOn IsCommand (agents + 1) h h'
-    → GoesOnFairly agents h h'
+pub fair-served : (agents : ℕ) (h h' : List Event) → AddsAtMostOneEach IsCommand (agents + 1) h h'
+    → AddsFairly agents h h'
 fair-served agents h h' commands =
     fairly agents h h' h' h' commands (ends-none h') (on-none IsPosting (agents + 1) h')
 
 pub ends-pending : (board : Board) (h k l h' : List Event)
-    → (commands : GoesOn IsCommand (length board.agents + 1) h k) → (ends : EndsOne k l)
-    → (postings : GoesOn IsPosting (length board.agents + 1) l h')
+    → (commands : AddsAtMostOneEach IsCommand (length board.agents + 1) h k) → (ends : EndsOne k l)
+    → (postings : AddsAtMostOneEach IsPosting (length board.agents + 1) l h')
     → IsLegal board h' → pending_sets board (deeds board l) ≡ drop 1 (pending_sets board (deeds board k))
     → EndsFirst board h h'
 ends-pending board h k l h' commands ends postings legal ended =
@@ -639,7 +639,7 @@ one-end board false k l asked asked' happens still =
     subst (EndsOne k) (sym (still false≢true)) (ends-none k)
 
 pub made-flushed : (before : List Asked) (b b' : Board) (end : ℕ) (h h' : List Event)
-    (asked : List Asked → Type 0) → GoesOn IsPosting end h h' → b' ≡ b
+    (asked : List Asked → Type 0) → AddsAtMostOneEach IsPosting end h h' → b' ≡ b
     → HasMade before b h asked → HasMade before b' h' asked
 made-flushed before b b' end h h' asked postings same made =
     subst (λ it. HasMade before it h' asked) (sym same)
@@ -650,24 +650,24 @@ made-flushed before b b' end h h' asked postings same made =
 module _ (old p q new : ControllerView) (did : Bool) (asked asked' : List Asked → Type 0)
     (served_board : p.board ≡ old.board) (ended_board : q.board ≡ p.board)
     (flushed_board : new.board ≡ q.board)
-    (commands : GoesOn IsCommand (length old.board.agents + 1) old.history p.history)
+    (commands : AddsAtMostOneEach IsCommand (length old.board.agents + 1) old.history p.history)
     (happens : IsTrue did → HappensOn p.board IsEnd p.history asked q.history asked')
     (still : ¬ (IsTrue did) → q ≡ p)
     (waiting : 0 < length (pending_sets p.board (deeds p.board p.history)) → IsTrue did)
     (ended_agrees : IsInStep q)
-    (postings : GoesOn IsPosting (length q.board.agents + 1) q.history new.history)
+    (postings : AddsAtMostOneEach IsPosting (length q.board.agents + 1) q.history new.history)
     (agrees : IsInStep new) where
   ends : EndsOne p.history q.history
   ends =
       one-end p.board did p.history q.history asked asked' happens
       (λ none. ap (λ v. v.history) (still none))
 
-  to_new : GoesOn IsPosting (length old.board.agents + 1) q.history new.history
+  to_new : AddsAtMostOneEach IsPosting (length old.board.agents + 1) q.history new.history
   to_new =
-      subst (λ b. GoesOn IsPosting (length b.agents + 1) q.history new.history)
+      subst (λ b. AddsAtMostOneEach IsPosting (length b.agents + 1) q.history new.history)
       (ended_board ∙ served_board) postings
 
-  pub round-fair : GoesOnFairly (length old.board.agents) old.history new.history
+  pub round-fair : AddsFairly (length old.board.agents) old.history new.history
   round-fair =
       fairly (length old.board.agents) old.history p.history q.history new.history commands ends
       to_new

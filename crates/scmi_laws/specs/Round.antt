@@ -29,16 +29,18 @@ AtMostOneEach IsOf first end [] = Unit {0}
 AtMostOneEach IsOf first end (event ∷ events) =
     (a : ℕ) × (first ≤ a) × (a < end) × IsOf a event × AtMostOneEach IsOf (a + 1) end events
 
--- a history goes on with such events
-pub record GoesOn (IsOf : ℕ → Event → Type 0) (end : ℕ) (h h' : List Event) : Type 0 where
+-- a history is longer by at most one such event of each agent, in order of their numbers, below the
+-- end
+pub record AddsAtMostOneEach (IsOf : ℕ → Event → Type 0) (end : ℕ)
+    (h h' : List Event) : Type 0 where
   pub events : List Event
   pub history : h' ≡ h ++ events
   pub one_each : AtMostOneEach IsOf 1 end events
 
--- a history goes on fairly to these agents: with at most one command of each, in order of their
--- numbers, then with at most one end of a pending set, and then with at most one posting to each,
--- in that order
-pub record GoesOnFairly (agents : ℕ) (h h' : List Event) : Type 0 where
+-- a history is longer by what is fair to these agents: at most one command of each, in order of
+-- their numbers, then at most one end of a pending set, and then at most one posting to each, in
+-- that order
+pub record AddsFairly (agents : ℕ) (h h' : List Event) : Type 0 where
   pub commands : List Event
   pub ends : List Event
   pub postings : List Event
@@ -51,7 +53,7 @@ pub record GoesOnFairly (agents : ℕ) (h h' : List Event) : Type 0 where
 -- the first set ends of those that were pending and then those that the commands of this round left
 -- pending, if there is one, and the others stay pending in order
 pub record EndsFirst (board : Board) (h h' : List Event) : Type 0 where
-  pub round : GoesOnFairly (length board.agents) h h'
+  pub round : AddsFairly (length board.agents) h h'
   pub accepted : List PendingSet
   pub served : pending_sets board (deeds board (h ++ round.commands))
       ≡ pending_sets board (deeds board h) ++ accepted
@@ -60,8 +62,8 @@ pub record EndsFirst (board : Board) (h h' : List Event) : Type 0 where
 
 -- THE ENDPOINTS OF AN AGENT
 
--- the endpoint of an agent's A2P channel polled once, took at most one command, and answered what it
--- took; it owes no answer
+-- the endpoint of an agent's A2P channel polled once, took at most one command, and answered what
+-- it took; it owes no answer
 pub record IsServedOnce (old new : CalleeView) : Type 0 where
   pub frames : List Frame
   pub answers : List Answer
@@ -79,8 +81,8 @@ pub record IsFlushedOnce (old new : CallerView) : Type 0 where
   pub at_most_one : length messages ≤ 1
   pub collected : new.collects ≡ one_more old.collects
 
--- an endpoint waits for an answer: fewer answers were read than frames posted, and the last post was
--- neither withdrawn nor given up
+-- an endpoint waits for an answer: fewer answers were read than frames posted, and the last post
+-- was neither withdrawn nor given up
 pub record IsWaiting (v : CallerView) : Type 0 where
   pub unread : length v.read < length v.posted
   pub stays : v.left ≡ false

@@ -6,10 +6,10 @@
 //! `every_event` have all that other commands and the other events are to another agent.
 //! `every_change`: no two changes came of one command.
 //!
-//! `run_round` is progress, as far as calls go: it serves each agent once, ends the first pending set,
-//! and flushes each outbox once. Then no agent is owed an answer, that set is gone, and a message
-//! that still waits has another in its channel, unless that is closed or may be full. No agent has
-//! more than one turn. Nothing is said of time, or of what another thread posts meanwhile
+//! `run_round` is progress, as far as calls go: it serves each agent once, ends the first pending
+//! set, and flushes each outbox once. Then no agent is owed an answer, that set is gone, and a
+//! message that still waits has another in its channel, unless that is closed or may be full. No
+//! agent has more than one turn. Nothing is said of time, or of what another thread posts meanwhile
 //! (specs/Round.antt).
 #![tactic(auto)]
 

@@ -6,7 +6,7 @@ ghost use Rattle.scmi_core.specs.Driven.{HasMade};
 ghost use Rattle.scmi_ends.specs.Agreement.{IsInStep};
 ghost use Rattle.scmi_ends.specs.ControllerView.{callee_of, caller_of};
 ghost use Rattle.scmi_ends.specs.Links.{HasLinks};
-ghost use Rattle.scmi_laws.specs.Round.{EndsFirst, GoesOn, GoesOnFairly, HasPostedAll, IsCommand, IsFlushedOnce, IsOrderly, IsPosting, IsServedOnce};
+ghost use Rattle.scmi_laws.specs.Round.{AddsAtMostOneEach, AddsFairly, EndsFirst, HasPostedAll, IsCommand, IsFlushedOnce, IsOrderly, IsPosting, IsServedOnce};
 
 use scmi_core::Hardware;
 use scmi_ends::{Controller, Link, ServeError};
@@ -51,7 +51,7 @@ pub fn run_round<C: Channel, H: Hardware>(
         (caller_of platform.new a)) }
     ensures orderly { (a : ℕ) → IsAgent (length platform.old.board.agents) a
         → IsOrderly (caller_of platform.old a) → IsOrderly (caller_of platform.new a) }
-    ensures fair { GoesOnFairly (length platform.old.board.agents)
+    ensures fair { AddsFairly (length platform.old.board.agents)
         platform.old.history platform.new.history }
     ensures grows { length platform.new.history
         ≤ length platform.old.history + (2 * length platform.old.board.agents + 1) }
@@ -77,7 +77,7 @@ fn serve_each<C: Channel, H: Hardware>(
     ensures made { (before : List Asked)
         → HasMade before platform.old.board platform.old.history (H.asked hardware.old)
         → HasMade before platform.new.board platform.new.history (H.asked hardware.new) }
-    ensures commands { GoesOn IsCommand (length platform.old.board.agents + 1)
+    ensures commands { AddsAtMostOneEach IsCommand (length platform.old.board.agents + 1)
         platform.old.history platform.new.history }
     ensures answered { OnOk result ((a : ℕ) → IsAgent (length platform.old.board.agents) a
         → IsServedOnce (callee_of platform.old a) (callee_of platform.new a)) }
@@ -98,7 +98,7 @@ fn flush_each<C: Channel>(platform: &mut Controller<C>, links: &[Link<C>]) -> Re
     ensures agrees { IsInStep platform.new }
     ensures board { platform.new.board ≡ platform.old.board }
     ensures callees { platform.new.callees ≡ platform.old.callees }
-    ensures postings { GoesOn IsPosting (length platform.old.board.agents + 1)
+    ensures postings { AddsAtMostOneEach IsPosting (length platform.old.board.agents + 1)
         platform.old.history platform.new.history }
     ensures flushed { OnOk result ((a : ℕ) → IsAgent (length platform.old.board.agents) a
         → IsFlushedOnce (caller_of platform.old a) (caller_of platform.new a)) }

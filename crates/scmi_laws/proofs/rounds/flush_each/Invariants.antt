@@ -2,7 +2,7 @@ use Rattle.std.proofs.Common.{◌≡◌, ℕ, ◌<◌, ◌≤◌}
 use Rattle.scmi_ends.specs.Agreement.{IsInStep}
 use Rattle.scmi_ends.specs.ControllerView.{caller_of}
 use Rattle.scmi_ends.specs.Links.{HasLinks}
-use Rattle.scmi_laws.specs.Round.{GoesOn, HasPostedAll, IsFlushedOnce, IsOrderly, IsPosting}
+use Rattle.scmi_laws.specs.Round.{AddsAtMostOneEach, HasPostedAll, IsFlushedOnce, IsOrderly, IsPosting}
 use Rattle.scmi_laws.proofs.rounds.flush_each.Given as goal
 
 abbrev pub invariant-flushed : goal.invariant-flushed
@@ -11,7 +11,7 @@ invariant-flushed g l = record {
   agrees : 1 < l.agent → IsInStep l.platform;
   board : l.platform.board ≡ l.fn.platform.board;
   callees : l.platform.callees ≡ l.fn.platform.callees;
-  postings : GoesOn IsPosting l.agent l.fn.platform.history l.platform.history;
+  postings : AddsAtMostOneEach IsPosting l.agent l.fn.platform.history l.platform.history;
   flushed : (a : ℕ) → 1 ≤ a → a < l.agent
       → IsFlushedOnce (caller_of l.fn.platform a) (caller_of l.platform a);
   posted : (a : ℕ) → 1 ≤ a → a < l.agent → IsOrderly (caller_of l.fn.platform a)

@@ -1,7 +1,7 @@
 use Rattle.std.proofs.Common.{◌≡◌, ℕ, ◌+◌, length, sym, ap, ◌∙◌, subst}
 use Rattle.scmi_plan.specs.Agent.{IsAgent}
 use Rattle.scmi_ends.specs.ControllerView.{caller_of}
-use Rattle.scmi_laws.specs.Round.{EndsFirst, GoesOnFairly, HasPostedAll, IsOrderly}
+use Rattle.scmi_laws.specs.Round.{AddsFairly, EndsFirst, HasPostedAll, IsOrderly}
 use Rattle.scmi_laws.proofs.RoundCalls.{fair-bound, fair-served, made-flushed, ok-map, on-ok, round-fair, round-pending}
 use Rattle.scmi_laws.proofs.rounds.run_round.Goals as goal
 use Rattle.scmi_laws.proofs.rounds.run_round.Goals.{After-flush_each}
@@ -24,7 +24,7 @@ pub returns-in_err-advance_on-clause-fair : goal.returns-in_err-advance_on-claus
 returns-in_err-advance_on-clause-fair g c =
     let n = length c.args.platform.now.board.agents in
     let old = c.args.platform.now.history in
-    subst (λ v. GoesOnFairly n old v.history) (sym c.in_err-advance_on.ensures.err)
+    subst (λ v. AddsFairly n old v.history) (sym c.in_err-advance_on.ensures.err)
     (fair-served n old c.serve_each.new.platform.history c.serve_each.ensures.commands)
 
 pub returns-in_err-advance_on-clause-grows : goal.returns-in_err-advance_on-clause-grows
@@ -32,11 +32,11 @@ returns-in_err-advance_on-clause-grows g c =
     let n = length c.args.platform.now.board.agents in
     let old = c.args.platform.now.history in
     fair-bound n old c.advance_on.new.self.history
-    (subst (λ v. GoesOnFairly n old v.history) (sym c.in_err-advance_on.ensures.err)
+    (subst (λ v. AddsFairly n old v.history) (sym c.in_err-advance_on.ensures.err)
     (fair-served n old c.serve_each.new.platform.history c.serve_each.ensures.commands))
 
 module _ (g : _) (c : After-flush_each g) where
-  fair : GoesOnFairly (length c.args.platform.now.board.agents) c.args.platform.now.history
+  fair : AddsFairly (length c.args.platform.now.board.agents) c.args.platform.now.history
       c.flush_each.new.platform.history
   fair =
       round-fair c.args.platform.now c.serve_each.new.platform c.advance_on.new.self

@@ -4,7 +4,7 @@ use Rattle.scmi_core.specs.Driven.{HasMade}
 use Rattle.scmi_ends.specs.Agreement.{IsInStep}
 use Rattle.scmi_ends.specs.ControllerView.{callee_of}
 use Rattle.scmi_ends.specs.Links.{HasLinks}
-use Rattle.scmi_laws.specs.Round.{GoesOn, IsCommand, IsServedOnce}
+use Rattle.scmi_laws.specs.Round.{AddsAtMostOneEach, IsCommand, IsServedOnce}
 use Rattle.scmi_laws.proofs.rounds.serve_each.Given as goal
 
 abbrev pub invariant-served : goal.invariant-served
@@ -16,7 +16,7 @@ invariant-served g l = record {
   made : (before : List Asked)
       → HasMade before l.fn.platform.board l.fn.platform.history (g.H.Hardware.asked l.fn.hardware)
       → HasMade before l.platform.board l.platform.history (g.H.Hardware.asked l.hardware);
-  commands : GoesOn IsCommand l.agent l.fn.platform.history l.platform.history;
+  commands : AddsAtMostOneEach IsCommand l.agent l.fn.platform.history l.platform.history;
   answered : (a : ℕ) → 1 ≤ a → a < l.agent
       → IsServedOnce (callee_of l.fn.platform a) (callee_of l.platform a);
   others : (a : ℕ) → l.agent ≤ a → callee_of l.platform a ≡ callee_of l.fn.platform a;
