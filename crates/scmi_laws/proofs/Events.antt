@@ -1,7 +1,7 @@
 -- What each event other than a command changes of an agent's situation.
-use Rattle.std.proofs.Common.{◌≡◌, ◌≢◌, ◌⊎◌, inl, inr, ℕ, suc, ◌+◌, ◌<◌, ◌==◌, ◌&&◌, ◌||◌, nat_lt, Bool, true, false, List, [], ◌∷◌, ◌++◌, length, map, drop, Some, None, unwrap_or, refl, sym, ap, ◌∙◌, subst, arith, if◌then◌else◌}
-use Rattle.std.specs.Option.{is_some, option_and_then, option_or}
-use Rattle.std.proofs.lemmas.List.{append_assoc, append-nil}
+use Rattle.std.proofs.Common.{◌≡◌, ◌≢◌, ℕ, ◌+◌, ◌<◌, ◌&&◌, ◌||◌, nat_lt, true, false, List, [], ◌∷◌, ◌++◌, length, map, drop, Some, None, unwrap_or, refl, sym, ap, ◌∙◌, subst, arith, if◌then◌else◌}
+use Rattle.std.specs.Option.{is_some, option_or}
+use Rattle.std.proofs.lemmas.List.{append_assoc, append-nil, length-map}
 use Rattle.std.proofs.lemmas.Bool.{eq-eqb, ne_eqb}
 use Rattle.scmi_codec.specs.declared.frame.Frame.{Frame}
 use Rattle.scmi_codec.specs.declared.frame.Frame.TheVariants.{Good, Malformed}
@@ -18,17 +18,17 @@ use Rattle.scmi_core.specs.declared.pending_set.Setting.TheVariants as setting
 use Rattle.scmi_core.specs.Deed.{Deed}
 use Rattle.scmi_core.specs.Laws.{is_refused}
 use Rattle.scmi_core.specs.Legal.{IsLegal}
-use Rattle.scmi_core.specs.Outbox.{failed_response_for, notice_in, response_for, state_changed}
+use Rattle.scmi_core.specs.Outbox.{failed_response_for, notice_in, response_for}
 use Rattle.scmi_core.specs.Pending.{has_set_of, is_set_by, sets_by, unwanted}
 use Rattle.scmi_core.specs.Situation.{Situation}
-use Rattle.scmi_core.specs.Value.{State, completion, set_to_change, value_in}
+use Rattle.scmi_core.specs.Value.{completion, set_to_change}
 use Rattle.scmi_core.proofs.Following.{next}
 use Rattle.scmi_core.proofs.Isolation.{refused}
 use Rattle.scmi_core.proofs.Legal.{IsLegal-front, IsLegal-last}
 use Rattle.scmi_core.proofs.Situations.{nothing-made}
-use Rattle.scmi_laws.specs.Others.{IsNotified, SeesCompletion, SeesFailure, SeesRestart, AreSeenAlike, situation_of}
+use Rattle.scmi_laws.specs.Others.{SeesCompletion, SeesFailure, SeesRestart, AreSeenAlike, situation_of}
 use Rattle.scmi_laws.proofs.Added.{situation-more}
-use Rattle.scmi_laws.proofs.Reaching.{HasAtMostOne, notices}
+use Rattle.scmi_laws.proofs.Reaching.{HasAtMostOne, notices, notified}
 
 -- A SET ENDS
 
@@ -55,37 +55,12 @@ module _ (board : Board) (b : ℕ) (s : Situation) (p : PendingSet) (ps : List P
       let load = length s.outbox + length (response_for b p) + length (sets_by b ps) in
       if nat_lt load OUTBOX_ROOM then notice_in stood (completion p) else []
 
-  outbox-is : after.outbox ≡ answered ++ notices_made
-  outbox-is = sym (append_assoc s.outbox (response_for b p) notices_made)
-
   at-most-one : HasAtMostOne p.agent stood (Some (completion p)) notices_made
   at-most-one =
       let load = length s.outbox + length (response_for b p) + length (sets_by b ps) in
       notices p.agent stood (nat_lt load OUTBOX_ROOM) (Some (completion p))
       (λ it is.
       sym (ap (λ o. (unwrap_or o it).causer) is) ∙ causer-is p.agent p.setting)
-
-  outbox-moved : HasAtMostOne p.agent stood (Some (completion p)) notices_made
-      → (after.outbox ≡ answered)
-      ⊎ ((d : ℕ) × IsNotified p.agent d (record stood { outbox = answered }) after)
-  outbox-moved (inl none) =
-      inl (outbox-is ∙ ap (λ ms. answered ++ ms) none ∙ append-nil answered)
-  outbox-moved (inr (d, is)) =
-      let old = s.value (State d) in
-      let state : after.value (State d) ≡ is.state
-      = ap (λ it. unwrap_or (option_and_then (value_in (State d)) it) old) is.given
-      ∙ ap (λ same. unwrap_or (if same then Some is.state else None) old) (eq-eqb d d refl) in
-      inr (
-        d,
-        record {
-          subscribed = is.subscribed;
-          new = λ same. is.new (sym state ∙ same);
-          message =
-              outbox-is
-              ∙ ap (λ ms. answered ++ ms) is.message
-              ∙ ap (λ v. answered ++ state_changed p.agent d v ∷ []) (sym state);
-        },
-      )
 
   completes : SeesCompletion b stood after
   completes = record {
@@ -95,7 +70,9 @@ module _ (board : Board) (b : ℕ) (s : Situation) (p : PendingSet) (ps : List P
     rights = record { allowed = λ d scope. refl; subscribed = λ d. refl };
     answered = answered;
     answer = refl;
-    outbox = outbox-moved at-most-one;
+    outbox =
+        notified p.agent stood after (Some (completion p)) answered notices_made (λ d. refl)
+        (sym (append_assoc s.outbox (response_for b p) notices_made)) at-most-one;
   }
 
   -- or it fails
@@ -186,21 +163,10 @@ busy-same : (a : ℕ) (r : Resource) (ps : List PendingSet)
 busy-same a r [] = refl
 busy-same a r (p ∷ ps) = ap (λ more. is_set_by r p.setting || more) (busy-same a r ps)
 
-count-same : (a : ℕ) (ps : List PendingSet) → length ps ≡ length (map (unwanted a) ps)
-count-same a [] = refl
-count-same a (p ∷ ps) = ap suc (count-same a ps)
-
 own-same : (a b : ℕ) (ps : List PendingSet)
     → length (sets_by b ps) ≡ length (sets_by b (map (unwanted a) ps))
 own-same a b [] = refl
-own-same a b (p ∷ ps) = by (own-same a b ps) (p.agent == b)
-  where
-    by : length (sets_by b ps) ≡ length (sets_by b (map (unwanted a) ps)) → (own : Bool)
-        → length (if own then p ∷ sets_by b ps else sets_by b ps)
-        ≡ length (if own then unwanted a p ∷ sets_by b (map (unwanted a) ps)
-        else sets_by b (map (unwanted a) ps))
-    by same true = ap suc same
-    by same false = same
+own-same a b (p ∷ ps) = grind (arith, own-same a b ps)
 
 module _ (board : Board) (a b : ℕ) (s : Situation) (differ : a ≢ b) where
   abbrev left : List PendingSet
@@ -216,7 +182,7 @@ module _ (board : Board) (a b : ℕ) (s : Situation) (differ : a ≢ b) where
     busy = λ r. busy-same a r s.pending;
     room = λ i.
         let own = own-same a b s.pending i in
-        nat_lt (count-same a s.pending i) PENDING_SETS
+        nat_lt (sym (length-map s.pending (unwanted a)) i) PENDING_SETS
         && (nat_lt own (channel_of board b).share && nat_lt (length s.outbox + own) OUTBOX_ROOM);
   }
 

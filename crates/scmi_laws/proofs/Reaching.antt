@@ -45,7 +45,7 @@ use Rattle.scmi_core.proofs.Deeds.{added_success, successes-push}
 use Rattle.scmi_core.proofs.Following.{next}
 use Rattle.scmi_core.proofs.Legal.{deeds-push}
 use Rattle.scmi_core.proofs.Trusted.{permissions}
-use Rattle.scmi_laws.specs.Others.{IsNotified, Reaches, ReachesOnly, situation_of}
+use Rattle.scmi_laws.specs.Others.{IsNotified, Reaches, ReachesOnly, situation_of, value_with}
 use Rattle.scmi_laws.proofs.Added.{situation-more}
 
 -- WHAT A SUCCESS OF AN AGENT SAYS
@@ -253,6 +253,31 @@ module _ (a : ℕ) (s : Situation) where
   notices true None own = inl refl
   notices true (Some it) own = notice it.thing it.value it.causer (own it refl)
 
+-- the outbox after them, if what was in it and was answered comes first
+pub notified : (a : ℕ) (s t : Situation) (change : Option Change) (first notices : List Message)
+    → ((d : ℕ) → t.value (State d) ≡ value_with change (State d) (s.value (State d)))
+    → t.outbox ≡ first ++ notices → HasAtMostOne a s change notices
+    → (t.outbox ≡ first) ⊎ ((d : ℕ) × IsNotified a d (record s { outbox = first }) t)
+notified a s t change first notices value outbox (inl none) =
+    inl (outbox ∙ ap (λ ms. first ++ ms) none ∙ append-nil first)
+notified a s t change first notices value outbox (inr (d, is)) =
+    let old = s.value (State d) in
+    let state : t.value (State d) ≡ is.state
+    = value d
+    ∙ ap (λ it. value_with it (State d) old) is.given
+    ∙ ap (λ same. unwrap_or (if same then Some is.state else None) old) (eq-eqb d d refl) in
+    inr (
+      d,
+      record {
+        subscribed = is.subscribed;
+        new = λ same. is.new (sym state ∙ same);
+        message =
+            outbox
+            ∙ ap (λ ms. first ++ ms) is.message
+            ∙ ap (λ v. first ++ state_changed a d v ∷ []) (sym state);
+      },
+    )
+
 each : {X : Type 0} {P : X → Type 0} (o : Option X) → ((x : X) → o ≡ Some x → P x) → IfSome o P
 each None all = tt
 each (Some x) all = all x refl
@@ -282,25 +307,6 @@ module _ (board : Board) (h : List Event) (a b : ℕ) (s : Situation) (differ : 
         outbox = s.outbox ++ made_in b s left None change;
       }
 
-  outbox-moved : HasAtMostOne a s change (made_in b s left None change)
-      → (moved.outbox ≡ s.outbox) ⊎ ((d : ℕ) × IsNotified a d s moved)
-  outbox-moved (inl none) = inl (ap (λ ms. s.outbox ++ ms) none ∙ append-nil s.outbox)
-  outbox-moved (inr (d, is)) =
-      let old = s.value (State d) in
-      let state : moved.value (State d) ≡ is.state
-      = ap (λ it. unwrap_or (option_and_then (value_in (State d)) it) old) is.given
-      ∙ ap (λ same. unwrap_or (if same then Some is.state else None) old) (eq-eqb d d refl) in
-      inr (
-        d,
-        record {
-          subscribed = is.subscribed;
-          new = λ same. is.new (sym state ∙ same);
-          message =
-              ap (λ ms. s.outbox ++ ms) is.message
-              ∙ ap (λ v. s.outbox ++ state_changed a d v ∷ []) (sym state);
-        },
-      )
-
   reaches-moved : ReachesOnly board h a s moved
   reaches-moved =
       let load = length s.outbox + 0 + length (sets_by b left) in
@@ -315,7 +321,8 @@ module _ (board : Board) (h : List Event) (a b : ℕ) (s : Situation) (differ : 
         set = set;
         own = each set is_own.set;
         pending = refl;
-        outbox = outbox-moved
+        outbox =
+            notified a s moved change s.outbox (made_in b s left None change) (λ d. refl) refl
             (notices a s (nat_lt load OUTBOX_ROOM) change (λ it is. (is_own.change it is).0));
       }
 
