@@ -10,7 +10,7 @@ use Rattle.scmi_core.specs.Outbox.{is_restart_of, is_sent_by, messages_left, mes
 use Rattle.scmi_core.specs.Pending.{accepted_sets, advances, pending_sets}
 use Rattle.scmi_core.specs.Value.{changes}
 use Rattle.scmi_core.proofs.Deeds.{changes-push, sent_count-push}
-use Rattle.scmi_core.proofs.Following.{change-is, change_in, made_next, messages-next, next, situation-next}
+use Rattle.scmi_core.proofs.Following.{change-is, change_in, made_next, messages-next, next, pending_next, situation-next}
 use Rattle.scmi_core.proofs.Legal.{advances_le-accepted, deeds-push, sent_le-made}
 use Rattle.scmi_laws.specs.Others.{situation_of}
 
@@ -47,3 +47,7 @@ module _ (board : Board) (h : List Event) (e : Event) (legal : IsLegal board h) 
   situation-more b =
       ap (situation_after board b) (deeds-push board h e)
       ∙ situation-next board b ds e enough (sent_le-made board h legal b)
+
+  pub pending-more : pending_sets board (deeds board (h ++ e ∷ []))
+      ≡ pending_next board (pending_sets board ds) added
+  pending-more = ap (λ s. s.pending) (situation-more 0)

@@ -14,7 +14,9 @@ AllBelow n ns = AllByRecursion (λ k. k < n) ns
 
 pub below-more : (n m : ℕ) → n ≤ m → (ns : List ℕ) → AllBelow n ns → AllBelow m ns
 below-more n m le [] all = tt
-below-more n m le (k ∷ ks) all = let here : k < n = all.0 in (omega arith, below-more n m le ks all.1)
+below-more n m le (k ∷ ks) all =
+    let here : k < n = all.0 in
+    (omega arith, below-more n m le ks all.1)
 
 -- one more in the middle, and one less
 module _ (P : ℕ → Type 0) where

@@ -30,10 +30,10 @@ use Rattle.scmi_core.specs.Pending.{acceptance, pending_sets, rate_set, state_se
 use Rattle.scmi_core.specs.Reply.{fits_channel, reply_words}
 use Rattle.scmi_core.specs.Value.{Change, change_now, changes, completion}
 use Rattle.scmi_core.proofs.Causes.{IsOwn, asked-own}
-use Rattle.scmi_core.proofs.Following.{change_in, pending-next, pending_next}
-use Rattle.scmi_core.proofs.Legal.{Grown, IsLegal-front, IsLegal-last, advances_le-accepted, deeds-push, empty, grow, grown}
+use Rattle.scmi_core.proofs.Following.{change_in, pending_next}
+use Rattle.scmi_core.proofs.Legal.{Grown, IsLegal-front, IsLegal-last, empty, grow, grown}
 use Rattle.scmi_laws.specs.Causes.{CameOf, HasOwnCauses}
-use Rattle.scmi_laws.proofs.Added.{changed-more}
+use Rattle.scmi_laws.proofs.Added.{changed-more, pending-more}
 use Rattle.scmi_laws.proofs.Apart.{AllBelow, Apart, all-pairs, apart-front, apart-insert, apart-push, apart-remove, below-more, each-insert, each-push, each-remove, zip-append, zip-weaker}
 
 -- A SUCCESS CHANGES AT ONCE OR IS ACCEPTED FOR LATER, NEVER BOTH
@@ -334,7 +334,8 @@ module _ (board : Board) (h : List Event) (e : Event) (cs : List Change) (ps : L
 -- OF EVERY LEGAL HISTORY
 
 abbrev IsPlaced : Board → List Event → Type 0
-IsPlaced board h = HasPlaces board h (changes board (deeds board h)) (pending_sets board (deeds board h))
+IsPlaced board h =
+    HasPlaces board h (changes board (deeds board h)) (pending_sets board (deeds board h))
 
 module _ (board : Board) (h : List Event) (legal : IsLegal board h) (had : IsPlaced board h) where
   abbrev ds : List Deed
@@ -354,16 +355,15 @@ module _ (board : Board) (h : List Event) (legal : IsLegal board h) (had : IsPla
   onward e moved =
       let h' = h ++ e ∷ [] in
       let deed = deed_after board ds e in
-      let left = ap (pending_sets board) (deeds-push board h e)
-      ∙ pending-next board ds e (advances_le-accepted board h legal) in
       subst (λ it. HasPlaces board h' it (pending_sets board (deeds board h')))
       (sym (changed-more board h e legal))
       (subst (λ it. HasPlaces board h' (cs ++ option_to_list (change_in board ps deed)) it)
-      (sym left) moved)
+      (sym (pending-more board h e legal)) moved)
 
   idle : (e : Event) → HasPlaces board (h ++ e ∷ []) (cs ++ []) (ps ++ [])
   idle e =
-      one-more board h e cs ps had None None (λ p is. refl) (λ c is. absurd (cc)) (λ p is. absurd (cc))
+      one-more board h e cs ps had None None (λ p is. refl) (λ c is. absurd (cc))
+      (λ p is. absurd (cc))
 
   placed : (e : Event) → CanFollow board h e → IsPlaced board (h ++ e ∷ [])
   placed (Command a (Good m)) follows =
@@ -380,7 +380,8 @@ module _ (board : Board) (h : List Event) (legal : IsLegal board h) (had : IsPla
   placed (CommandFailed a (Good m)) follows =
       onward (CommandFailed a (Good m)) (idle (CommandFailed a (Good m)))
   placed (CommandFailed a (Malformed len header)) follows =
-      onward (CommandFailed a (Malformed len header)) (idle (CommandFailed a (Malformed len header)))
+      let e = CommandFailed a (Malformed len header) in
+      onward e (idle e)
   placed (Sent a) follows = onward (Sent a) (idle (Sent a))
   placed (Restarted a) follows =
       let h' = h ++ Restarted a ∷ [] in

@@ -1,12 +1,12 @@
 -- A round, call by call.
-use Rattle.std.proofs.Common.{◌≡◌, ◌≢◌, ◌⊎◌, inl, inr, ℕ, zero, suc, ◌+◌, ◌-◌, ◌*◌, ◌<◌, ◌≤◌, Bool, true, false, List, [], ◌∷◌, ◌++◌, length, drop, get_or, refl, sym, ap, ◌∙◌, subst, arith}
-use Rattle.std.specs.Prelude.{IsTrue, OnOk, Result, Ok, Err}
+use Rattle.std.proofs.Common.{◌≡◌, ◌≢◌, ◌⊎◌, inl, inr, ℕ, zero, suc, ◌+◌, ◌-◌, ◌*◌, ◌<◌, ◌≤◌, Bool, true, false, List, [], ◌∷◌, ◌++◌, length, drop, get_or, set, refl, sym, ap, ◌∙◌, subst, arith, if◌then◌else◌}
+use Rattle.std.specs.Prelude.{IsTrue}
 use Rattle.std.specs.List.{All}
+use Rattle.std.specs.Option.{option_and_then, option_to_list}
 use Rattle.std.proofs.lemmas.List.{append_assoc, append-nil, get_or-set_other, get_or-set_same, length-append, length-set}
 use Rattle.std.proofs.lemmas.List.Elements.{All-cons, All-nil}
 use Rattle.std.proofs.lemmas.Bool.{cases_eq, false≢true}
-use Rattle.scmi_codec.specs.declared.frame.Frame.{Frame}
-use Rattle.scmi_codec.specs.declared.frame.Frame.TheVariants.{Good, Malformed}
+use Rattle.scmi_codec.specs.declared.frame.Frame.TheVariants.{Good}
 use Rattle.scmi_link.specs.View.{CalleeView, CallerView, IsOutstanding, Owes, knows_close, new_callee, new_caller, one_more}
 use Rattle.scmi_link.specs.Calls.{Collects, FindsNoPlace}
 use Rattle.scmi_link.specs.declared.collected.Collected.{Collected}
@@ -17,14 +17,14 @@ use Rattle.scmi_core.specs.declared.event.Event.{Event}
 use Rattle.scmi_core.specs.declared.event.Event.TheVariants.{Command, Advance, Sent, CommandFailed, AdvanceFailed}
 use Rattle.scmi_core.specs.declared.pending_set.PendingSet.{PendingSet}
 use Rattle.scmi_core.specs.Asked.{Asked}
-use Rattle.scmi_core.specs.Driven.{HappensOn, HasMade, IsCommandOf, IsEnd, asks}
+use Rattle.scmi_core.specs.Deed.{Deed, restarted_by}
+use Rattle.scmi_core.specs.Driven.{HappensOn, IsCommandOf, IsEnd}
 use Rattle.scmi_core.specs.History.{deed_after, deeds, outbox}
 use Rattle.scmi_core.specs.Legal.{IsLegal}
-use Rattle.scmi_core.specs.Pending.{pending_sets}
-use Rattle.scmi_core.proofs.EffectsMade.{asks-push}
-use Rattle.scmi_core.proofs.Following.{pending-next, pending_next}
+use Rattle.scmi_core.specs.Pending.{acceptance, is_advance, pending_sets}
+use Rattle.scmi_core.proofs.Deeds.{added_success, pending_left}
 use Rattle.scmi_core.proofs.Laws.{as_many}
-use Rattle.scmi_core.proofs.Legal.{IsLegal-front, advances_le-accepted, deeds-push}
+use Rattle.scmi_core.proofs.Legal.{IsLegal-front, deed-event}
 use Rattle.scmi_script.specs.declared.flushed.Flushed.{Flushed}
 use Rattle.scmi_script.specs.declared.flushed.Flushed.TheVariants as flushed
 use Rattle.scmi_script.specs.declared.served.Served.{Served}
@@ -35,13 +35,15 @@ use Rattle.scmi_ends.specs.Each.{AllFrom}
 use Rattle.scmi_ends.specs.Flush.{Flushes, FlushesOne}
 use Rattle.scmi_ends.specs.ServeOn.{ServesOn, ServesOneOn}
 use Rattle.scmi_laws.specs.Round.{AddsAtMostOneEach, AddsFairly, AtMostOneEach, EndsFirst, HasPostedAll, IsCommand, IsFlushedOnce, IsOrderly, IsPosting, IsServedOnce, IsWaiting}
+use Rattle.scmi_laws.proofs.Added.{pending-more}
 use Rattle.scmi_laws.proofs.Events.{sent}
 
 -- AT MOST ONE EVENT OF EACH AGENT
 
 module _ (IsOf : ℕ → Event → Type 0) where
   pub each-push : (first end : ℕ) (es : List Event) (e : Event) → first ≤ end
-      → AtMostOneEach IsOf first end es → IsOf end e → AtMostOneEach IsOf first (end + 1) (es ++ e ∷ [])
+      → AtMostOneEach IsOf first end es → IsOf end e
+      → AtMostOneEach IsOf first (end + 1) (es ++ e ∷ [])
   each-push first end [] e le had is = (end, le, omega arith, is, tt)
   each-push first end (x ∷ es) e le had is =
       let a = had.0 in
@@ -87,6 +89,23 @@ module _ (IsOf : ℕ → Event → Type 0) where
   pub on-none : (end : ℕ) (h : List Event) → AddsAtMostOneEach IsOf end h h
   on-none end h = record { events = []; history = sym (append-nil h); one_each = tt }
 
+-- THE ENDPOINT OF ONE AGENT
+
+-- that of agent a is set
+module _ {V : Type 0} (vs vs' : List V) (a n : ℕ) (v none : V) (is : vs' ≡ set vs (a - 1) v)
+    (count : length vs' ≡ n) (agent : IsAgent n a) where
+  set-there : get_or vs' (a - 1) none ≡ v
+  set-there =
+      let inside : a - 1 < length vs
+      = omega (arith, ap length is, length-set vs (a - 1) v, count, agent.0, agent.1) in
+      ap (λ us. get_or us (a - 1) none) is ∙ get_or-set_same vs (a - 1) v none inside
+
+  set-other : (b : ℕ) → 1 ≤ b → b ≢ a → get_or vs' (b - 1) none ≡ get_or vs (b - 1) none
+  set-other b from differ =
+      let one : 1 ≤ a = agent.0 in
+      let places : b - 1 ≢ a - 1 = (λ same. differ (omega arith)) in
+      ap (λ us. get_or us (b - 1) none) is ∙ get_or-set_other vs (a - 1) (b - 1) v none places
+
 -- AN AGENT IS SERVED
 
 -- the endpoints agree with a history: none owes an answer
@@ -129,35 +148,27 @@ served-once board a h h' asked asked' old new served.Done s none = record {
 }
 
 -- what one call leaves
-module _ (a : ℕ) (c c' : ControllerView) (asked asked' : List Asked → Type 0) (r : Served)
-    (s : ServesOn a c asked r c' asked') (agrees : IsInStep c') (same : c'.board ≡ c.board)
+module _ {a : ℕ} {c c' : ControllerView} {asked asked' : List Asked → Type 0} {r : Served}
+    (s : ServesOn a c asked r c' asked') (agrees : IsInStep c')
     (agent : IsAgent (length c.board.agents) a) where
-  callees-count : length c'.callees ≡ length c.callees
-  callees-count = ap (λ v. length v.callees) s.same ∙ length-set c.callees (a - 1) s.callee
-
-  inside : a - 1 < length c.callees
-  inside =
-      let board : length c'.board.agents ≡ length c.board.agents = ap (λ b. length b.agents) same in
-      omega (arith, callees-count, agrees.callees_count, agent.0, agent.1)
+  there : IsAgent (length c'.board.agents) a
+  there = subst (λ b. IsAgent (length b.agents) a) (sym (ap (λ v. v.board) s.same)) agent
 
   callee-is : callee_of c' a ≡ s.callee
   callee-is =
-      ap (λ v. callee_of v a) s.same
-      ∙ get_or-set_same c.callees (a - 1) s.callee new_callee inside
+      set-there c.callees c'.callees a (length c'.board.agents) s.callee new_callee
+      (ap (λ v. v.callees) s.same) agrees.callees_count there
 
   pub serves-own : IsServedOnce (callee_of c a) (callee_of c' a)
   serves-own =
-      let there = subst (λ b. IsAgent (length b.agents) a) (sym same) agent in
       subst (IsServedOnce (callee_of c a)) (sym callee-is)
       (served-once c.board a c.history c'.history asked asked' (callee_of c a) s.callee r s.step
       (subst (λ v. ¬ (Owes v)) callee-is (owes-none c' a agrees there)))
 
   pub serves-other : (b : ℕ) → 1 ≤ b → b ≢ a → callee_of c' b ≡ callee_of c b
-  serves-other b from differ =
-      let one : 1 ≤ a = agent.0 in
-      let places : b - 1 ≢ a - 1 = (λ same. differ (omega arith)) in
-      ap (λ v. callee_of v b) s.same
-      ∙ get_or-set_other c.callees (a - 1) (b - 1) s.callee new_callee places
+  serves-other =
+      set-other c.callees c'.callees a (length c'.board.agents) s.callee new_callee
+      (ap (λ v. v.callees) s.same) agrees.callees_count there
 
   pub serves-on : (h : List Event) → AddsAtMostOneEach IsCommand a h c.history
       → AddsAtMostOneEach IsCommand (a + 1) h c'.history
@@ -301,21 +312,18 @@ posted-other full board h h' b v same (inl none) = inl (same ∙ none)
 posted-other full board h h' b v same (inr why) = inr why
 
 -- what one call leaves
-module _ (full : Bool) (a : ℕ) (c c' : ControllerView) (r : Flushed) (s : Flushes full a c r c')
-    (agrees : IsInStep c') (same : c'.board ≡ c.board)
-    (agent : IsAgent (length c.board.agents) a) where
-  callers-count : length c'.callers ≡ length c.callers
-  callers-count = ap (λ v. length v.callers) s.same ∙ length-set c.callers (a - 1) s.caller
+module _ {full : Bool} {a : ℕ} {c c' : ControllerView} {r : Flushed} (s : Flushes full a c r c')
+    (agrees : IsInStep c') (agent : IsAgent (length c.board.agents) a) where
+  board-is : c'.board ≡ c.board
+  board-is = ap (λ v. v.board) s.same
 
-  within : a - 1 < length c.callers
-  within =
-      let board : length c'.board.agents ≡ length c.board.agents = ap (λ b. length b.agents) same in
-      omega (arith, callers-count, agrees.callers_count, agent.0, agent.1)
+  at : IsAgent (length c'.board.agents) a
+  at = subst (λ b. IsAgent (length b.agents) a) (sym board-is) agent
 
   caller-is : caller_of c' a ≡ s.caller
   caller-is =
-      ap (λ v. caller_of v a) s.same
-      ∙ get_or-set_same c.callers (a - 1) s.caller new_caller within
+      set-there c.callers c'.callers a (length c'.board.agents) s.caller new_caller
+      (ap (λ v. v.callers) s.same) agrees.callers_count at
 
   pub flushes-own : IsFlushedOnce (caller_of c a) (caller_of c' a)
   flushes-own =
@@ -337,11 +345,9 @@ module _ (full : Bool) (a : ℕ) (c c' : ControllerView) (r : Flushed) (s : Flus
       (orderly-collects (caller_of c a) s.step.answer s.step.collected s.step.collects is))
 
   pub flushes-other : (b : ℕ) → 1 ≤ b → b ≢ a → caller_of c' b ≡ caller_of c b
-  flushes-other b from differ =
-      let one : 1 ≤ a = agent.0 in
-      let places : b - 1 ≢ a - 1 = (λ same. differ (omega arith)) in
-      ap (λ v. caller_of v b) s.same
-      ∙ get_or-set_other c.callers (a - 1) (b - 1) s.caller new_caller places
+  flushes-other =
+      set-other c.callers c'.callers a (length c'.board.agents) s.caller new_caller
+      (ap (λ v. v.callers) s.same) agrees.callers_count at
 
   pub flushes-on : (h : List Event) → AddsAtMostOneEach IsPosting a h c.history
       → AddsAtMostOneEach IsPosting (a + 1) h c'.history
@@ -369,7 +375,7 @@ module _ (full : Bool) (a : ℕ) (c c' : ControllerView) (r : Flushed) (s : Flus
       by flushed.Nothing t = ap (outbox c.board b) t.0
       by flushed.Closed t = ap (outbox c.board b) t.0
       by flushed.Posted t =
-          let legal = subst (λ board. IsLegal board c'.history) same agrees.legal in
+          let legal = subst (λ board. IsLegal board c'.history) board-is agrees.legal in
           let front =
           IsLegal-front c.board c.history (Sent a) (subst (IsLegal c.board) t.event legal) in
           ap (outbox c.board b) t.event ∙ outbox-other c.board c.history a b front differ
@@ -401,12 +407,21 @@ legal-part board h k legal = record {
       (ap (λ xs. xs ++ k) is ∙ append_assoc before (event ∷ after) k);
 }
 
-pending-more : (board : Board) (h : List Event) (e : Event) → IsLegal board h
-    → pending_sets board (deeds board (h ++ e ∷ []))
-    ≡ pending_next board (pending_sets board (deeds board h)) (deed_after board (deeds board h) e)
-pending-more board h e legal =
-    ap (pending_sets board) (deeds-push board h e)
-    ∙ pending-next board (deeds board h) e (advances_le-accepted board h legal)
+-- those after one more event, if it is this one
+module _ (board : Board) (h : List Event) (e x : Event)
+    (legal : IsLegal board h) (same : e ≡ x) where
+  abbrev deed : Deed
+  deed = deed_after board (deeds board h) e
+
+  abbrev left_by : Event → List PendingSet
+  left_by it =
+      let ps = pending_sets board (deeds board h) in
+      if is_advance it then drop 1 ps
+      else pending_left (restarted_by it) ps
+      ++ option_to_list (option_and_then (acceptance board) (added_success deed))
+
+  pending-by : pending_sets board (deeds board (h ++ e ∷ [])) ≡ left_by x
+  pending-by = pending-more board h e legal ∙ ap left_by (deed-event board (deeds board h) e ∙ same)
 
 -- some sets come after those that were pending
 record LeavesMore (board : Board) (h h' : List Event) : Type 0 where
@@ -417,26 +432,11 @@ command-leaves : (board : Board) (h : List Event) (a : ℕ) (e : Event) → IsCo
     → IsLegal board h → LeavesMore board h (h ++ e ∷ [])
 command-leaves board h a e is legal = by is.1
   where
-    of_command : (frame : Frame) → LeavesMore board h (h ++ Command a frame ∷ [])
-    of_command (Good m) =
-        record { accepted = _; left = pending-more board h (Command a (Good m)) legal }
-    of_command (Malformed len header) =
-        record { accepted = []; left = pending-more board h (Command a (Malformed len header)) legal }
-
-    of_failed : (frame : Frame) → LeavesMore board h (h ++ CommandFailed a frame ∷ [])
-    of_failed (Good m) =
-        record { accepted = []; left = pending-more board h (CommandFailed a (Good m)) legal }
-    of_failed (Malformed len header) =
-        record {
-          accepted = [];
-          left = pending-more board h (CommandFailed a (Malformed len header)) legal;
-        }
-
     by : IsCommandOf a is.0 e → LeavesMore board h (h ++ e ∷ [])
     by (inl same) =
-        subst (λ it. LeavesMore board h (h ++ it ∷ [])) (sym same) (of_command is.0)
+        record { accepted = _; left = pending-by board h e (Command a is.0) legal same }
     by (inr same) =
-        subst (λ it. LeavesMore board h (h ++ it ∷ [])) (sym same) (of_failed is.0)
+        record { accepted = _; left = pending-by board h e (CommandFailed a is.0) legal same }
 
 leaves-on : (board : Board) (h k l : List Event) → LeavesMore board h k → LeavesMore board k l
     → LeavesMore board h l
@@ -478,32 +478,15 @@ postings-leave board first end h (e ∷ es) each legal =
     ap pending (sym same)
     ∙ postings-leave board (each.0 + 1) end (h ++ e ∷ []) es each.4 rest
     ∙ ap (λ it. pending (h ++ it ∷ [])) each.3
-    ∙ pending-more board h (Sent each.0) (legal-part board h (e ∷ es) legal)
+    ∙ pending-by board h (Sent each.0) (Sent each.0) (legal-part board h (e ∷ es) legal) refl
     ∙ append-nil (pending h)
 
 -- an end takes the first
 ends-first : (board : Board) (h : List Event) (e : Event) → IsEnd e → IsLegal board h
     → pending_sets board (deeds board (h ++ e ∷ []))
     ≡ drop 1 (pending_sets board (deeds board h))
-ends-first board h e (inl is) legal =
-    ap (λ it. pending_sets board (deeds board (h ++ it ∷ []))) is
-    ∙ pending-more board h Advance legal
-ends-first board h e (inr is) legal =
-    ap (λ it. pending_sets board (deeds board (h ++ it ∷ []))) is
-    ∙ pending-more board h AdvanceFailed legal
-
--- WHAT HARDWARE WAS ASKED FOR
-
-postings-ask : (board : Board) (first end : ℕ) (before : List Asked) (h es : List Event)
-    → AtMostOneEach IsPosting first end es → before ++ asks board (h ++ es) ≡ before ++ asks board h
-postings-ask board first end before h [] each =
-    ap (λ xs. before ++ asks board xs) (append-nil h)
-postings-ask board first end before h (e ∷ es) each =
-    let same = append_assoc h (e ∷ []) es in
-    ap (λ xs. before ++ asks board xs) (sym same)
-    ∙ postings-ask board (each.0 + 1) end before (h ++ e ∷ []) es each.4
-    ∙ ap (λ it. before ++ asks board (h ++ it ∷ [])) each.3
-    ∙ sym (asks-push board before h (Sent each.0))
+ends-first board h e (inl is) legal = pending-by board h e Advance legal is
+ends-first board h e (inr is) legal = pending-by board h e AdvanceFailed legal is
 
 -- THE ROUND AS A WHOLE
 
@@ -522,24 +505,17 @@ ends-none h = record {
   each = All-nil IsEnd;
 }
 
-pub ends-one : (board : Board) (h h' : List Event) (asked asked' : List Asked → Type 0)
-    → HappensOn board IsEnd h asked h' asked' → EndsOne h h'
-ends-one board h h' asked asked' happens = record {
-  ends = happens.event ∷ [];
-  history = happens.history;
-  one = omega arith;
-  each = All-cons IsEnd happens.event [] happens.is_one (All-nil IsEnd);
-}
-
-pub fairly : (agents : ℕ) (h k l h' : List Event) → AddsAtMostOneEach IsCommand (agents + 1) h k
-    → EndsOne k l → AddsAtMostOneEach IsPosting (agents + 1) l h' → AddsFairly agents h h'
+abbrev pub fairly : (agents : ℕ) (h k l h' : List Event)
+    → AddsAtMostOneEach IsCommand (agents + 1) h k → EndsOne k l
+    → AddsAtMostOneEach IsPosting (agents + 1) l h' → AddsFairly agents h h'
 fairly agents h k l h' commands ends postings = record {
   commands = commands.events;
   ends = ends.ends;
   postings = postings.events;
   history =
       postings.history
-      ∙ ap (λ xs. xs ++ postings.events) (ends.history ∙ ap (λ xs. xs ++ ends.ends) commands.history)
+      ∙ ap (λ xs. xs ++ postings.events)
+      (ends.history ∙ ap (λ xs. xs ++ ends.ends) commands.history)
       ∙ append_assoc (h ++ commands.events) ends.ends postings.events
       ∙ append_assoc h commands.events (ends.ends ++ postings.events);
   one_command_each = commands.one_each;
@@ -574,7 +550,8 @@ fair-served agents h h' commands =
 pub ends-pending : (board : Board) (h k l h' : List Event)
     → (commands : AddsAtMostOneEach IsCommand (length board.agents + 1) h k) → (ends : EndsOne k l)
     → (postings : AddsAtMostOneEach IsPosting (length board.agents + 1) l h')
-    → IsLegal board h' → pending_sets board (deeds board l) ≡ drop 1 (pending_sets board (deeds board k))
+    → IsLegal board h'
+    → pending_sets board (deeds board l) ≡ drop 1 (pending_sets board (deeds board k))
     → EndsFirst board h h'
 ends-pending board h k l h' commands ends postings legal ended =
     let at_l = subst (IsLegal board) postings.history legal in
@@ -582,36 +559,23 @@ ends-pending board h k l h' commands ends postings legal ended =
     let at_k = subst (IsLegal board) ends.history to_l in
     let to_k = legal-part board k ends.ends at_k in
     let at_h = subst (IsLegal board) commands.history to_k in
-    let left =
-    commands-leave board 1 (length board.agents + 1) h commands.events commands.one_each at_h in
+    let end = length board.agents + 1 in
+    let left = commands-leave board 1 end h commands.events commands.one_each at_h in
     let pending = λ (xs : List Event). pending_sets board (deeds board xs) in
     record {
-      round = record {
-        commands = commands.events;
-        ends = ends.ends;
-        postings = postings.events;
-        history =
-            postings.history
-            ∙ ap (λ xs. xs ++ postings.events)
-            (ends.history ∙ ap (λ xs. xs ++ ends.ends) commands.history)
-            ∙ append_assoc (h ++ commands.events) ends.ends postings.events
-            ∙ append_assoc h commands.events (ends.ends ++ postings.events);
-        one_command_each = commands.one_each;
-        one_end = ends.one;
-        each_ends = ends.each;
-        one_posting_each = postings.one_each;
-      };
+      round = fairly (length board.agents) h k l h' commands ends postings;
       accepted = left.accepted;
       served = left.left;
       ended =
           ap pending postings.history
-          ∙ postings-leave board 1 (length board.agents + 1) l postings.events postings.one_each at_l
+          ∙ postings-leave board 1 end l postings.events postings.one_each at_l
           ∙ ended
           ∙ ap (λ xs. drop 1 (pending xs)) commands.history;
     }
 
 -- what `advance_on` leaves of the pending sets
-pub ended-first : (board : Board) (did : Bool) (k l : List Event) (asked asked' : List Asked → Type 0)
+pub ended-first : (board : Board) (did : Bool) (k l : List Event)
+    (asked asked' : List Asked → Type 0)
     → IsLegal board l → (IsTrue did → HappensOn board IsEnd k asked l asked')
     → (¬ (IsTrue did) → l ≡ k)
     → (0 < length (pending_sets board (deeds board k)) → IsTrue did)
@@ -624,7 +588,9 @@ ended-first board true k l asked asked' legal happens still waiting =
 ended-first board false k l asked asked' legal happens still waiting =
     let none : pending_sets board (deeds board k) ≡ []
     = nothing-waits (pending_sets board (deeds board k)) (λ some. false≢true (waiting some)) in
-    ap (λ xs. pending_sets board (deeds board xs)) (still false≢true) ∙ none ∙ ap (drop 1) (sym none)
+    ap (λ xs. pending_sets board (deeds board xs)) (still false≢true)
+    ∙ none
+    ∙ ap (drop 1) (sym none)
   where
     nothing-waits : (ps : List PendingSet) → (0 < length ps → ⊥) → ps ≡ []
     nothing-waits [] none = refl
@@ -634,17 +600,15 @@ pub one-end : (board : Board) (did : Bool) (k l : List Event) (asked asked' : Li
     → (IsTrue did → HappensOn board IsEnd k asked l asked') → (¬ (IsTrue did) → l ≡ k)
     → EndsOne k l
 one-end board true k l asked asked' happens still =
-    ends-one board k l asked asked' (happens refl)
+    let done = happens refl in
+    record {
+      ends = done.event ∷ [];
+      history = done.history;
+      one = omega arith;
+      each = All-cons IsEnd done.event [] done.is_one (All-nil IsEnd);
+    }
 one-end board false k l asked asked' happens still =
     subst (EndsOne k) (sym (still false≢true)) (ends-none k)
-
-pub made-flushed : (before : List Asked) (b b' : Board) (end : ℕ) (h h' : List Event)
-    (asked : List Asked → Type 0) → AddsAtMostOneEach IsPosting end h h' → b' ≡ b
-    → HasMade before b h asked → HasMade before b' h' asked
-made-flushed before b b' end h h' asked postings same made =
-    subst (λ it. HasMade before it h' asked) (sym same)
-    (subst (λ it. HasMade before b it asked) (sym postings.history)
-    (subst asked (sym (postings-ask b 1 end before h postings.events postings.one_each)) made))
 
 -- the three parts of a round
 module _ (old p q new : ControllerView) (did : Bool) (asked asked' : List Asked → Type 0)
@@ -667,11 +631,6 @@ module _ (old p q new : ControllerView) (did : Bool) (asked asked' : List Asked 
       subst (λ b. AddsAtMostOneEach IsPosting (length b.agents + 1) q.history new.history)
       (ended_board ∙ served_board) postings
 
-  pub round-fair : AddsFairly (length old.board.agents) old.history new.history
-  round-fair =
-      fairly (length old.board.agents) old.history p.history q.history new.history commands ends
-      to_new
-
   pub round-pending : EndsFirst old.board old.history new.history
   round-pending =
       let to_q = subst (λ b. IsLegal b q.history) ended_board ended_agrees.legal in
@@ -682,12 +641,3 @@ module _ (old p q new : ControllerView) (did : Bool) (asked asked' : List Asked 
       (subst (λ b. IsLegal b new.history) (flushed_board ∙ ended_board ∙ served_board) agrees.legal)
       (subst (λ b. pending_sets b (deeds b q.history) ≡ drop 1 (pending_sets b (deeds b p.history)))
       served_board first)
-
--- what holds in any case holds after success
-pub on-ok : {A E : Type 0} (r : Result A E) (P : Type 0) → P → OnOk r P
-on-ok (Ok x) P is = is
-on-ok (Err e) P is = tt
-
-pub ok-map : {A E : Type 0} (r : Result A E) (P Q : Type 0) → (P → Q) → OnOk r P → OnOk r Q
-ok-map (Ok x) P Q step had = step had
-ok-map (Err e) P Q step had = tt

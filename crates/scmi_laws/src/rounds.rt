@@ -2,7 +2,7 @@
 ghost use Rattle.std.specs.Prelude.{◌≡◌, ◌+◌, ◌*◌, ◌≤◌, ℕ, List, length, OnOk, IfErr};
 ghost use Rattle.scmi_plan.specs.Agent.{IsAgent};
 ghost use Rattle.scmi_core.specs.Asked.{Asked};
-ghost use Rattle.scmi_core.specs.Driven.{HasMade};
+ghost use Rattle.scmi_core.specs.Driven.{HasMade, asks};
 ghost use Rattle.scmi_ends.specs.Agreement.{IsInStep};
 ghost use Rattle.scmi_ends.specs.ControllerView.{callee_of, caller_of};
 ghost use Rattle.scmi_ends.specs.Links.{HasLinks};
@@ -98,6 +98,8 @@ fn flush_each<C: Channel>(platform: &mut Controller<C>, links: &[Link<C>]) -> Re
     ensures agrees { IsInStep platform.new }
     ensures board { platform.new.board ≡ platform.old.board }
     ensures callees { platform.new.callees ≡ platform.old.callees }
+    ensures made { asks platform.new.board platform.new.history
+        ≡ asks platform.old.board platform.old.history }
     ensures postings { AddsAtMostOneEach IsPosting (length platform.old.board.agents + 1)
         platform.old.history platform.new.history }
     ensures flushed { OnOk result ((a : ℕ) → IsAgent (length platform.old.board.agents) a

@@ -10,21 +10,22 @@ use Rattle.scmi_laws.proofs.rounds.flush_each.Goals.{In_ok-flush}
 module _ (g : _) (c : In_ok-flush g) where
   is_agent : IsAgent (length c.flushed.platform.board.agents) c.flushed.agent
   is_agent =
-      let n = length c.args.platform.now.board.agents in
-      let now : length c.flushed.platform.board.agents ≡ n
-      = ap (λ b. length b.agents) c.flushed.invariant.board in
-      let here : length c.core.result.now.board.agents ≡ n
-      = ap (λ b. length b.agents) c.core.ensures.board in (
+      let now = ap (λ b. length b.agents) c.flushed.invariant.board in
+      let here = ap (λ b. length b.agents) c.core.ensures.board in (
         omega (arith, c.flushed.auto.agent),
-        omega (arith, c.flushed-test.true, c.flushed.auto.agent-end, c.agents-agents.ensures.count),
+        omega (
+          arith,
+          now,
+          here,
+          c.flushed-test.true,
+          c.flushed.auto.agent-end,
+          c.agents-agents.ensures.count,
+        ),
       )
 
   others : (b : ℕ) → 1 ≤ b → b ≢ c.flushed.agent
       → caller_of c.flush.new.self b ≡ caller_of c.flushed.platform b
-  others =
-      flushes-other g.C.Channel.FULL c.flushed.agent c.flushed.platform c.flush.new.self
-      c.in_ok-flush.field-0 c.in_ok-flush.ensures.flushes c.flush.ensures.agrees
-      c.flush.ensures.board is_agent
+  others = flushes-other c.in_ok-flush.ensures.flushes c.flush.ensures.agrees is_agent
 
   -- no other agent's outbox
   others_posted : (b : ℕ) → 1 ≤ b → b ≢ c.flushed.agent
@@ -38,9 +39,7 @@ module _ (g : _) (c : In_ok-flush g) where
       let now = c.flush.new.self in
       let same = subst (λ it. outbox it b now.history ≡ outbox it b c.flushed.platform.history)
       c.flushed.invariant.board
-      (flushes-kept full c.flushed.agent c.flushed.platform now
-      c.in_ok-flush.field-0 c.in_ok-flush.ensures.flushes c.flush.ensures.agrees
-      c.flush.ensures.board is_agent b differ) in
+      (flushes-kept c.in_ok-flush.ensures.flushes c.flush.ensures.agrees is_agent b differ) in
       subst (HasPostedAll full board b now.history) (sym (others b from differ))
       (posted-other full board c.flushed.platform.history now.history b
       (caller_of c.flushed.platform b) same had)
@@ -55,25 +54,22 @@ flushed-preserved g c =
     let a = c.flushed.agent in
     let one : 1 ≤ a = (is_agent g c).0 in
     let same = kept.others a (omega arith) in
+    let flushes = c.in_ok-flush.ensures.flushes in
+    let agrees = c.flush.ensures.agrees in
     record {
       links = c.flush.ensures.links;
-      agrees = λ more. c.flush.ensures.agrees;
+      agrees = λ more. agrees;
       board = c.flush.ensures.board ∙ kept.board;
-      callees =
-          flushes-callees full a was now c.in_ok-flush.field-0 c.in_ok-flush.ensures.flushes
-          c.flush.ensures.agrees c.flush.ensures.board (is_agent g c)
-          ∙ kept.callees;
-      postings =
-          flushes-on full a was now c.in_ok-flush.field-0 c.in_ok-flush.ensures.flushes
-          c.flush.ensures.agrees c.flush.ensures.board (is_agent g c) old.history kept.postings;
+      callees = flushes-callees flushes agrees (is_agent g c) ∙ kept.callees;
+      made = c.flush.ensures.made ∙ kept.made;
+      postings = flushes-on flushes agrees (is_agent g c) old.history kept.postings;
       flushed =
           one-by-one (λ b. IsFlushedOnce (caller_of old b) (caller_of was b))
           (λ b. IsFlushedOnce (caller_of old b) (caller_of now b)) a kept.flushed
           (λ b from differ had.
           subst (IsFlushedOnce (caller_of old b)) (sym (others g c b from differ)) had)
           (subst (λ v. IsFlushedOnce v (caller_of now a)) same
-          (flushes-own full a was now c.in_ok-flush.field-0 c.in_ok-flush.ensures.flushes
-          c.flush.ensures.agrees c.flush.ensures.board (is_agent g c)));
+          (flushes-own flushes agrees (is_agent g c)));
       posted =
           one-by-one
           (λ b. IsOrderly (caller_of old b)
@@ -83,17 +79,12 @@ flushed-preserved g c =
           (λ b from differ had is. others_posted g c b from differ (had is))
           (λ is.
           subst (λ it. HasPostedAll full it a now.history (caller_of now a)) kept.board
-          (flushes-all full a was now c.in_ok-flush.field-0 c.in_ok-flush.ensures.flushes
-          c.flush.ensures.agrees c.flush.ensures.board (is_agent g c)
-          (subst IsOrderly (sym same) is)));
+          (flushes-all flushes agrees (is_agent g c) (subst IsOrderly (sym same) is)));
       orderly =
           one-by-one (λ b. IsOrderly (caller_of old b) → IsOrderly (caller_of was b))
           (λ b. IsOrderly (caller_of old b) → IsOrderly (caller_of now b)) a kept.orderly
           (λ b from differ had is. subst IsOrderly (sym (others g c b from differ)) (had is))
-          (λ is.
-          flushes-orderly full a was now c.in_ok-flush.field-0 c.in_ok-flush.ensures.flushes
-          c.flush.ensures.agrees c.flush.ensures.board (is_agent g c)
-          (subst IsOrderly (sym same) is));
+          (λ is. flushes-orderly flushes agrees (is_agent g c) (subst IsOrderly (sym same) is));
       others = λ b from.
           let first : 1 ≤ b = omega arith in
           let differ : b ≢ a = omega arith in

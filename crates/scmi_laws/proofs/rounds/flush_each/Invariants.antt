@@ -1,4 +1,5 @@
 use Rattle.std.proofs.Common.{◌≡◌, ℕ, ◌<◌, ◌≤◌}
+use Rattle.scmi_core.specs.Driven.{asks}
 use Rattle.scmi_ends.specs.Agreement.{IsInStep}
 use Rattle.scmi_ends.specs.ControllerView.{caller_of}
 use Rattle.scmi_ends.specs.Links.{HasLinks}
@@ -11,6 +12,7 @@ invariant-flushed g l = record {
   agrees : 1 < l.agent → IsInStep l.platform;
   board : l.platform.board ≡ l.fn.platform.board;
   callees : l.platform.callees ≡ l.fn.platform.callees;
+  made : asks l.platform.board l.platform.history ≡ asks l.fn.platform.board l.fn.platform.history;
   postings : AddsAtMostOneEach IsPosting l.agent l.fn.platform.history l.platform.history;
   flushed : (a : ℕ) → 1 ≤ a → a < l.agent
       → IsFlushedOnce (caller_of l.fn.platform a) (caller_of l.platform a);

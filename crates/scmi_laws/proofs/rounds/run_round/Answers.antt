@@ -1,8 +1,9 @@
-use Rattle.std.proofs.Common.{◌≡◌, ℕ, ◌+◌, length, sym, ap, ◌∙◌, subst}
+use Rattle.std.proofs.Common.{◌≡◌, ◌++◌, length, sym, ap, ◌∙◌, subst}
+use Rattle.std.proofs.lemmas.Result.{on_ok_weaker}
 use Rattle.scmi_plan.specs.Agent.{IsAgent}
 use Rattle.scmi_ends.specs.ControllerView.{caller_of}
 use Rattle.scmi_laws.specs.Round.{AddsFairly, EndsFirst, HasPostedAll, IsOrderly}
-use Rattle.scmi_laws.proofs.RoundCalls.{fair-bound, fair-served, made-flushed, ok-map, on-ok, round-fair, round-pending}
+use Rattle.scmi_laws.proofs.RoundCalls.{fair-bound, fair-served, round-pending}
 use Rattle.scmi_laws.proofs.rounds.run_round.Goals as goal
 use Rattle.scmi_laws.proofs.rounds.run_round.Goals.{After-flush_each}
 
@@ -36,17 +37,6 @@ returns-in_err-advance_on-clause-grows g c =
     (fair-served n old c.serve_each.new.platform.history c.serve_each.ensures.commands))
 
 module _ (g : _) (c : After-flush_each g) where
-  fair : AddsFairly (length c.args.platform.now.board.agents) c.args.platform.now.history
-      c.flush_each.new.platform.history
-  fair =
-      round-fair c.args.platform.now c.serve_each.new.platform c.advance_on.new.self
-      c.flush_each.new.platform c.in_ok-advance_on.field-0
-      (g.H.Hardware.asked c.serve_each.new.hardware) (g.H.Hardware.asked c.advance_on.new.hardware)
-      c.serve_each.ensures.board c.advance_on.ensures.board c.flush_each.ensures.board
-      c.serve_each.ensures.commands c.in_ok-advance_on.ensures.happens
-      c.in_ok-advance_on.ensures.same c.in_ok-advance_on.ensures.pending.1
-      c.advance_on.ensures.agrees c.flush_each.ensures.postings c.flush_each.ensures.agrees
-
   pending : EndsFirst c.args.platform.now.board c.args.platform.now.history
       c.flush_each.new.platform.history
   pending =
@@ -65,41 +55,33 @@ module _ (g : _) (c : After-flush_each g) where
   board = c.advance_on.ensures.board ∙ c.serve_each.ensures.board
 
 pub returns-clause-fair : goal.returns-clause-fair
-returns-clause-fair g c = fair g (goal.at.returns-clause-fair g c).After-flush_each
+returns-clause-fair g c = (pending g (goal.at.returns-clause-fair g c).After-flush_each).round
 
 pub returns-clause-grows : goal.returns-clause-grows
 returns-clause-grows g c =
     let at = (goal.at.returns-clause-grows g c).After-flush_each in
     fair-bound (length c.args.platform.now.board.agents) c.args.platform.now.history
-    c.flush_each.new.platform.history (fair g at)
+    c.flush_each.new.platform.history (pending g at).round
 
 pub returns-clause-pending : goal.returns-clause-pending
 returns-clause-pending g c =
-    on-ok c.flush_each.result
-    (EndsFirst c.args.platform.now.board c.args.platform.now.history
-    c.flush_each.new.platform.history)
-    (pending g (goal.at.returns-clause-pending g c).After-flush_each)
+    on_ok_weaker c.flush_each.result
+    (λ posted. pending g (goal.at.returns-clause-pending g c).After-flush_each)
+    c.flush_each.ensures.posted
 
 pub returns-clause-made : goal.returns-clause-made
 returns-clause-made g c = λ before made.
-    let q = c.advance_on.new.self in
-    made-flushed before q.board c.flush_each.new.platform.board (length q.board.agents + 1) q.history
-    c.flush_each.new.platform.history (g.H.Hardware.asked c.advance_on.new.hardware)
-    c.flush_each.ensures.postings c.flush_each.ensures.board
+    subst (λ it. g.H.Hardware.asked c.advance_on.new.hardware (before ++ it))
+    (sym c.flush_each.ensures.made)
     (c.advance_on.ensures.made before (c.serve_each.ensures.made before made))
 
 pub returns-clause-posted : goal.returns-clause-posted
 returns-clause-posted g c =
     let at = (goal.at.returns-clause-posted g c).After-flush_each in
-    let old = c.args.platform.now in
     let q = c.advance_on.new.self in
     let new = c.flush_each.new.platform in
     let full = g.C.Channel.FULL in
-    ok-map c.flush_each.result
-    ((a : ℕ) → IsAgent (length q.board.agents) a → IsOrderly (caller_of q a)
-    → HasPostedAll full q.board a new.history (caller_of new a))
-    ((a : ℕ) → IsAgent (length old.board.agents) a → IsOrderly (caller_of old a)
-    → HasPostedAll full old.board a new.history (caller_of new a))
+    on_ok_weaker c.flush_each.result
     (λ posted a agent is.
     subst (λ b. HasPostedAll full b a new.history (caller_of new a)) (board g at)
     (posted a (subst (λ b. IsAgent (length b.agents) a) (sym (board g at)) agent)

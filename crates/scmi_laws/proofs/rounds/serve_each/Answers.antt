@@ -9,30 +9,26 @@ use Rattle.scmi_laws.proofs.rounds.serve_each.Goals.{In_ok-serve_on}
 module _ (g : _) (c : In_ok-serve_on g) where
   is_agent : IsAgent (length c.served.platform.board.agents) c.served.agent
   is_agent =
-      let n = length c.args.platform.now.board.agents in
-      let now : length c.served.platform.board.agents ≡ n
-      = ap (λ b. length b.agents) c.served.invariant.board in
-      let here : length c.core.result.now.board.agents ≡ n
-      = ap (λ b. length b.agents) c.core.ensures.board in (
+      let now = ap (λ b. length b.agents) c.served.invariant.board in
+      let here = ap (λ b. length b.agents) c.core.ensures.board in (
         omega (arith, c.served.auto.agent),
-        omega (arith, c.served-test.true, c.served.auto.agent-end, c.agents-agents.ensures.count),
+        omega (
+          arith,
+          now,
+          here,
+          c.served-test.true,
+          c.served.auto.agent-end,
+          c.agents-agents.ensures.count,
+        ),
       )
 
   others : (b : ℕ) → 1 ≤ b → b ≢ c.served.agent
       → callee_of c.serve_on.new.self b ≡ callee_of c.served.platform b
-  others =
-      serves-other c.served.agent c.served.platform c.serve_on.new.self
-      (g.H.Hardware.asked c.served.hardware) (g.H.Hardware.asked c.serve_on.new.hardware)
-      c.in_ok-serve_on.field-0 c.in_ok-serve_on.ensures.serves c.serve_on.ensures.agrees
-      c.serve_on.ensures.board is_agent
+  others = serves-other c.in_ok-serve_on.ensures.serves c.serve_on.ensures.agrees is_agent
 
   own : IsServedOnce (callee_of c.served.platform c.served.agent)
       (callee_of c.serve_on.new.self c.served.agent)
-  own =
-      serves-own c.served.agent c.served.platform c.serve_on.new.self
-      (g.H.Hardware.asked c.served.hardware) (g.H.Hardware.asked c.serve_on.new.hardware)
-      c.in_ok-serve_on.field-0 c.in_ok-serve_on.ensures.serves c.serve_on.ensures.agrees
-      c.serve_on.ensures.board is_agent
+  own = serves-own c.in_ok-serve_on.ensures.serves c.serve_on.ensures.agrees is_agent
 
 pub served-preserved : goal.served-preserved
 served-preserved g c =
@@ -41,22 +37,15 @@ served-preserved g c =
     let kept = c.served.invariant in
     let a = c.served.agent in
     let one : 1 ≤ a = (is_agent g c).0 in
+    let serves = c.in_ok-serve_on.ensures.serves in
+    let agrees = c.serve_on.ensures.agrees in
     record {
       links = c.serve_on.ensures.links;
-      agrees = λ more. c.serve_on.ensures.agrees;
+      agrees = λ more. agrees;
       board = c.serve_on.ensures.board ∙ kept.board;
-      callers =
-          serves-callers a c.served.platform now
-          (g.H.Hardware.asked c.served.hardware) (g.H.Hardware.asked c.serve_on.new.hardware)
-          c.in_ok-serve_on.field-0 c.in_ok-serve_on.ensures.serves c.serve_on.ensures.agrees
-          c.serve_on.ensures.board (is_agent g c)
-          ∙ kept.callers;
+      callers = serves-callers serves agrees (is_agent g c) ∙ kept.callers;
       made = λ before made. c.serve_on.ensures.made before (kept.made before made);
-      commands =
-          serves-on a c.served.platform now
-          (g.H.Hardware.asked c.served.hardware) (g.H.Hardware.asked c.serve_on.new.hardware)
-          c.in_ok-serve_on.field-0 c.in_ok-serve_on.ensures.serves c.serve_on.ensures.agrees
-          c.serve_on.ensures.board (is_agent g c) old.history kept.commands;
+      commands = serves-on serves agrees (is_agent g c) old.history kept.commands;
       answered =
           one-by-one (λ b. IsServedOnce (callee_of old b) (callee_of c.served.platform b))
           (λ b. IsServedOnce (callee_of old b) (callee_of now b)) a kept.answered
