@@ -1,5 +1,5 @@
 -- A success of a command that only reads does nothing, and one of any other command does something.
-use Rattle.std.proofs.Common.{◌≡◌, ℕ, Bool, true, false, Option, Some, None, option_map, refl, ap, if◌then◌else◌}
+use Rattle.std.proofs.Common.{◌≡◌, ℕ, Bool, true, false, Option, Some, None, option_map, refl, ap, rules, if◌then◌else◌}
 use Rattle.std.specs.Option.{option_or}
 use Rattle.std.proofs.lemmas.Bool.{eq-eqb}
 use Rattle.scmi_codec.specs.Header.{HeaderFields}
@@ -23,50 +23,31 @@ module _ (board : Board) (a : ℕ) (header : HeaderFields) where
   success c = record { caller = a; header = header; command = c }
 
   nothing : (c : codec.Command) → is_read c ≡ true → DoesNothing board (success c)
-  nothing (Base base.Version) is =
-      record { change = refl; set = refl; permission = λ b d s. refl; subscription = λ b d. refl }
-  nothing (Base base.Attributes) is =
-      record { change = refl; set = refl; permission = λ b d s. refl; subscription = λ b d. refl }
-  nothing (Base (base.MessageAttributes message)) is =
-      record { change = refl; set = refl; permission = λ b d s. refl; subscription = λ b d. refl }
-  nothing (Base base.Vendor) is =
-      record { change = refl; set = refl; permission = λ b d s. refl; subscription = λ b d. refl }
-  nothing (Base base.SubVendor) is =
-      record { change = refl; set = refl; permission = λ b d s. refl; subscription = λ b d. refl }
-  nothing (Base base.Implementation) is =
-      record { change = refl; set = refl; permission = λ b d s. refl; subscription = λ b d. refl }
-  nothing (Base (base.Protocols skip)) is =
-      record { change = refl; set = refl; permission = λ b d s. refl; subscription = λ b d. refl }
-  nothing (Base (base.Agent agent)) is =
-      record { change = refl; set = refl; permission = λ b d s. refl; subscription = λ b d. refl }
+  nothing (Base base.Version) is = search rules
+  nothing (Base base.Attributes) is = search rules
+  nothing (Base (base.MessageAttributes message)) is = search rules
+  nothing (Base base.Vendor) is = search rules
+  nothing (Base base.SubVendor) is = search rules
+  nothing (Base base.Implementation) is = search rules
+  nothing (Base (base.Protocols skip)) is = search rules
+  nothing (Base (base.Agent agent)) is = search rules
   nothing (Base (base.Permit agent device flags)) is = absurd (cc)
   nothing (Base (base.PermitProtocol agent device protocol flags)) is = absurd (cc)
   nothing (Base (base.ResetAgent agent flags)) is = absurd (cc)
-  nothing (Power power.Version) is =
-      record { change = refl; set = refl; permission = λ b d s. refl; subscription = λ b d. refl }
-  nothing (Power power.Attributes) is =
-      record { change = refl; set = refl; permission = λ b d s. refl; subscription = λ b d. refl }
-  nothing (Power (power.MessageAttributes message)) is =
-      record { change = refl; set = refl; permission = λ b d s. refl; subscription = λ b d. refl }
-  nothing (Power (power.DomainAttributes domain)) is =
-      record { change = refl; set = refl; permission = λ b d s. refl; subscription = λ b d. refl }
+  nothing (Power power.Version) is = search rules
+  nothing (Power power.Attributes) is = search rules
+  nothing (Power (power.MessageAttributes message)) is = search rules
+  nothing (Power (power.DomainAttributes domain)) is = search rules
   nothing (Power (power.Set flags domain state)) is = absurd (cc)
-  nothing (Power (power.Get domain)) is =
-      record { change = refl; set = refl; permission = λ b d s. refl; subscription = λ b d. refl }
+  nothing (Power (power.Get domain)) is = search rules
   nothing (Power (power.Notify domain enable)) is = absurd (cc)
-  nothing (Clock clock.Version) is =
-      record { change = refl; set = refl; permission = λ b d s. refl; subscription = λ b d. refl }
-  nothing (Clock clock.Attributes) is =
-      record { change = refl; set = refl; permission = λ b d s. refl; subscription = λ b d. refl }
-  nothing (Clock (clock.MessageAttributes message)) is =
-      record { change = refl; set = refl; permission = λ b d s. refl; subscription = λ b d. refl }
-  nothing (Clock (clock.ClockAttributes c)) is =
-      record { change = refl; set = refl; permission = λ b d s. refl; subscription = λ b d. refl }
-  nothing (Clock (clock.Describe c index)) is =
-      record { change = refl; set = refl; permission = λ b d s. refl; subscription = λ b d. refl }
+  nothing (Clock clock.Version) is = search rules
+  nothing (Clock clock.Attributes) is = search rules
+  nothing (Clock (clock.MessageAttributes message)) is = search rules
+  nothing (Clock (clock.ClockAttributes c)) is = search rules
+  nothing (Clock (clock.Describe c index)) is = search rules
   nothing (Clock (clock.SetRate flags c rate)) is = absurd (cc)
-  nothing (Clock (clock.GetRate c)) is =
-      record { change = refl; set = refl; permission = λ b d s. refl; subscription = λ b d. refl }
+  nothing (Clock (clock.GetRate c)) is = search rules
   nothing (Clock (clock.Config c attributes)) is = absurd (cc)
 
   -- what is set is set now or later

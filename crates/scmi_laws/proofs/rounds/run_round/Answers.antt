@@ -15,10 +15,8 @@ returns-in_err-serve_each-clause-fair g c =
 
 pub returns-in_err-serve_each-clause-grows : goal.returns-in_err-serve_each-clause-grows
 returns-in_err-serve_each-clause-grows g c =
-    let n = length c.args.platform.now.board.agents in
-    let old = c.args.platform.now.history in
-    let now = c.serve_each.new.platform.history in
-    fair-bound n old now (fair-served n old now c.serve_each.ensures.commands)
+    fair-bound (length c.args.platform.now.board.agents) c.args.platform.now.history
+    c.serve_each.new.platform.history (returns-in_err-serve_each-clause-fair g c)
 
 -- or before it ends a set
 pub returns-in_err-advance_on-clause-fair : goal.returns-in_err-advance_on-clause-fair
@@ -30,11 +28,8 @@ returns-in_err-advance_on-clause-fair g c =
 
 pub returns-in_err-advance_on-clause-grows : goal.returns-in_err-advance_on-clause-grows
 returns-in_err-advance_on-clause-grows g c =
-    let n = length c.args.platform.now.board.agents in
-    let old = c.args.platform.now.history in
-    fair-bound n old c.advance_on.new.self.history
-    (subst (λ v. AddsFairly n old v.history) (sym c.in_err-advance_on.ensures.err)
-    (fair-served n old c.serve_each.new.platform.history c.serve_each.ensures.commands))
+    fair-bound (length c.args.platform.now.board.agents) c.args.platform.now.history
+    c.advance_on.new.self.history (returns-in_err-advance_on-clause-fair g c)
 
 module _ (g : _) (c : After-flush_each g) where
   pending : EndsFirst c.args.platform.now.board c.args.platform.now.history
