@@ -6,7 +6,7 @@ use Rattle.scmi_io.specs.Lines.{first_line, has_line_feed}
 use Rattle.scmi_io.specs.declared.input_error.InputError.{InputError}
 use Rattle.scmi_io.specs.declared.input_error.InputError.TheVariants as input
 use Rattle.scmi_plan.specs.Board.{Board}
-use Rattle.scmi_judge.specs.declared.unseen.Refusals.{Refusals}
+use Rattle.scmi_judge.specs.declared.unseen.Unseen.{Unseen}
 use Rattle.scmi_check.specs.Check.{GivesBefore, IsAtLine, IsBefore, IsEndWithout, IsFaultOfBoard, IsOfBoard}
 use Rattle.scmi_check.specs.CheckError.{IsRefused, line_error}
 use Rattle.scmi_check.specs.Judged.{AreJudged}
@@ -90,14 +90,14 @@ AreFirst text first e =
     (behind : List Line) × (lines_left (whole text) ≡ first ++ behind) × IsBefore e behind
 
 -- what the lines show that were read is found, and given to the listener
-pub found-before : (Means : List ℕ → List ℕ → Type 0) (protocols : List ℕ) (refuses : Refusals)
+pub found-before : (Means : List ℕ → List ℕ → Type 0) (protocols : List ℕ) (may : Unseen)
     (board : Board) (known : Option (List ℕ)) (first : List Line) (c : Check)
     (before after : Option (List Judged)) (noted now : Option (List Note)) (e : CheckError)
-    → AddsLines Means refuses board (nothing_shown protocols) [] [] first c before after noted now
+    → AddsLines Means may board (nothing_shown protocols) [] [] first c before after noted now
     → IfSome known (λ t. AreFirst t first e)
-    → IfSome known (λ t. GivesBefore Means protocols refuses board e t before after noted now)
-found-before Means protocols refuses board None first c before after noted now e adds lines = tt
-found-before Means protocols refuses board (Some t) first c before after noted now e adds lines =
+    → IfSome known (λ t. GivesBefore Means protocols may board e t before after noted now)
+found-before Means protocols may board None first c before after noted now e adds lines = tt
+found-before Means protocols may board (Some t) first c before after noted now e adds lines =
     let more = adds.is_told.more in
     let remarks = adds.is_told.remarks in
     let way = adds.is_told.way in
@@ -111,25 +111,25 @@ found-before Means protocols refuses board (Some t) first c before after noted n
       at = lines.2;
       meant = adds.meant;
       shows_is = adds.makes;
-      are = subst (λ es. AreJudged refuses board es more)
-          (sym (entries-are refuses board adds.next ([] ++ more) ([] ++ remarks) c way))
+      are = subst (λ es. AreJudged may board es more)
+          (sym (entries-are may board adds.next ([] ++ more) ([] ++ remarks) c way))
           way.judging.are;
       given = adds.is_told.given;
       told = subst (λ ns. Grows noted now ns)
-          (sym (notes-are refuses board adds.next ([] ++ more) ([] ++ remarks) c way))
+          (sym (notes-are may board adds.next ([] ++ more) ([] ++ remarks) c way))
           adds.is_told.told;
     }
 
-module _ (Means : List ℕ → List ℕ → Type 0) (protocols : List ℕ) (refuses : Refusals)
+module _ (Means : List ℕ → List ℕ → Type 0) (protocols : List ℕ) (may : Unseen)
     (board : Board) (known left : Option (List ℕ)) (number : ℕ) (c : Check)
     (before after : Option (List Judged)) (noted now : Option (List Note))
-    (read : IsReadTo Means protocols refuses board known left number c before after noted now) where
+    (read : IsReadTo Means protocols may board known left number c before after noted now) where
   -- before a line that is too long
   pub before-long : (e : InputError) (at : ℕ) → IsAtLine (line_error e at)
-      → IfSome known (λ t. GivesBefore Means protocols refuses board (line_error e at) t before
+      → IfSome known (λ t. GivesBefore Means protocols may board (line_error e at) t before
       after noted now)
   before-long input.Size at here =
-      found-before Means protocols refuses board known read.first c before after noted now
+      found-before Means protocols may board known read.first c before after noted now
       (error.Long at) read.adds (by known left read.lines) where
         by : (known left : Option (List ℕ))
             → IfSome known (λ t. IsSomeAnd left (IsLeft read.first read.texts number t))
@@ -148,9 +148,9 @@ module _ (Means : List ℕ → List ℕ → Type 0) (protocols : List ℕ) (refu
     line = record { number = next_number; text = text }
 
     pub before-line : (e : CheckError) → IsStopBy Means board read.adds.next line e → IsAtLine e
-        → IfSome known (λ t. GivesBefore Means protocols refuses board e t before after noted now)
+        → IfSome known (λ t. GivesBefore Means protocols may board e t before after noted now)
     before-line e stop at =
-        found-before Means protocols refuses board known read.first c before after noted now e
+        found-before Means protocols may board known read.first c before after noted now e
         read.adds (by e known left read.lines is ends stop at) where
           by : (e : CheckError) (known left : Option (List ℕ))
               → IfSome known (λ t. IsSomeAnd left (IsLeft read.first read.texts number t))
@@ -161,7 +161,7 @@ module _ (Means : List ℕ → List ℕ → Type 0) (protocols : List ℕ) (refu
           by e None left lines one end stop at = tt
           by e (Some t) None lines one end stop at = absurd lines
           by (error.Record n) (Some t) (Some input) lines one end stop at =
-              let both = split Means protocols refuses board known left number c before after noted
+              let both = split Means protocols may board known left number c before after noted
               now read text ended is ends next_number numbered input one end in (
                 if_counts line ++ both.0,
                 lines.0 ∙ ap (λ ls. read.first ++ ls) both.1,

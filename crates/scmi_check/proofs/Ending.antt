@@ -4,7 +4,7 @@ use Rattle.std.proofs.lemmas.Bool.Decides.{nat_tests}
 use Rattle.std.specs.List.{All}
 use Rattle.scmi_plan.specs.Board.{Board}
 use Rattle.scmi_judge.specs.Guesses.{AreMany}
-use Rattle.scmi_judge.specs.declared.unseen.Refusals.{Refusals}
+use Rattle.scmi_judge.specs.declared.unseen.Unseen.{Unseen}
 use Rattle.scmi_check.specs.Check.{IsFoundOf}
 use Rattle.scmi_check.specs.Judged.{AreJudged, DoesFit, behind, line_at}
 use Rattle.scmi_check.specs.LeftOut.{LeftView, with_notes}
@@ -28,8 +28,8 @@ some-entries xs none = grind (arith, nat_tests)
 no-entries : (xs : List Placed) → (length xs == 0) ≡ true → length xs ≡ 0
 no-entries xs none = grind (arith, nat_tests)
 
-module _ (refuses : Refusals) (board : Board) (all : Shows) (judged : List Judged)
-    (notes : List Note) (c : Check) (way : IsUnderWay refuses board all judged notes c) where
+module _ (may : Unseen) (board : Board) (all : Shows) (judged : List Judged)
+    (notes : List Note) (c : Check) (way : IsUnderWay may board all judged notes c) where
   pub entries-are : all.entries ≡ way.placed
   entries-are = ap (λ (s : Shows). s.entries) way.all_is
       ∙ ap (λ (es : List Placed). way.placed ++ es) way.none_left ∙ append-none way.placed
@@ -48,16 +48,16 @@ module _ (refuses : Refusals) (board : Board) (all : Shows) (judged : List Judge
       → left.skipped ≡ checked.skipped → left.protocols ≡ checked.protocols.items
       → checked.differs ≡ c.progress.differs
       → checked.unsure ≡ c.progress.unsure → c.progress.is_empty ≡ false
-      → IsFoundOf refuses board (finished all) judged (notes ++ left.notes) checked
+      → IsFoundOf may board (finished all) judged (notes ++ left.notes) checked
   all-found left checked is skipped protocols differs unsure empty =
       let being = way.judging in
       record {
         some = subst (λ (es : List Placed). 0 < length es) (sym entries-are)
             (some-entries way.placed (sym being.empty_is ∙ empty));
-        are = subst (λ (es : List Placed). AreJudged refuses board es judged)
+        are = subst (λ (es : List Placed). AreJudged may board es judged)
             (sym entries-are) being.are;
         many = subst (λ (es : List Placed). length judged < length es → All DoesFit judged
-            → AreMany refuses board (behind judged) (2 + PLACES)) (sym entries-are) being.many;
+            → AreMany may board (behind judged) (2 + PLACES)) (sym entries-are) being.many;
         left_is = left-is ∙ ap (λ (l : LeftView). with_notes l (notes ++ l.notes)) is
             ∙ ap (λ n. record {
               notes = notes ++ left.notes;

@@ -15,7 +15,7 @@ use Rattle.scmi_judge.specs.Behind.{HasLegalHistory}
 use Rattle.scmi_judge.specs.Guesses.{AreMany}
 use Rattle.scmi_judge.specs.Judging.{AreTooMany, Knows}
 use Rattle.scmi_judge.specs.declared.entry.Entry.{Entry}
-use Rattle.scmi_judge.specs.declared.unseen.Refusals.{Refusals}
+use Rattle.scmi_judge.specs.declared.unseen.Unseen.{Unseen}
 use Rattle.scmi_judge.specs.declared.verdict.Verdict.{Verdict}
 use Rattle.scmi_check.specs.Finding.{Fits, finding_of, judged_as}
 use Rattle.scmi_check.specs.Judged.{AreJudged, DoesFit, behind, does_differ, line_at}
@@ -69,28 +69,28 @@ not-empty : (xs : List Placed) (one : Placed) → false ≡ (length (xs ++ one �
 not-empty xs one = let more = length-append xs (one ∷ []) in grind (arith, nat_tests)
 
 -- no entry
-pub being-none : (refuses : Refusals) (board : Board) (p : Progress) → Knows p.judge []
-    → p.judge.board ≡ board → p.judge.refuses ≡ refuses
+pub being-none : (may : Unseen) (board : Board) (p : Progress) → Knows p.judge []
+    → p.judge.board ≡ board → p.judge.unseen ≡ may
     → length p.judge.guesses + length p.judge.spare ≡ 1 + PLACES → p.unsure ≡ None
     → p.differs ≡ false
-    → p.is_empty ≡ true → AreBeingJudged refuses board [] [] p
-being-none refuses board p knows board-is refuses-is places unsure differs empty =
+    → p.is_empty ≡ true → AreBeingJudged may board [] [] p
+being-none may board p knows board-is unseen-is places unsure differs empty =
     record {
       board_is = board-is;
-      refuses_is = refuses-is;
+      unseen_is = unseen-is;
       places = λ _. places;
       knows = λ _ _. knows;
-      are = judged-none refuses board [] [] refl;
+      are = judged-none may board [] [] refl;
       many = λ less. absurd (omega (arith, less));
       unsure_is = unsure;
       differs_is = differs;
       empty_is = empty;
     }
 
-module _ (refuses : Refusals) (board : Board) (placed : List Placed) (judged : List Judged)
-    (one : Placed) (old new : Progress) (being : AreBeingJudged refuses board placed judged old)
+module _ (may : Unseen) (board : Board) (placed : List Placed) (judged : List Judged)
+    (one : Placed) (old new : Progress) (being : AreBeingJudged may board placed judged old)
   where
-    are-later : AreJudged refuses board (placed ++ one ∷ []) judged
+    are-later : AreJudged may board (placed ++ one ∷ []) judged
     are-later = let more = length-append placed (one ∷ []) in let few = being.are.few in
         record {
           few = omega (arith, more, few);
@@ -102,13 +102,13 @@ module _ (refuses : Refusals) (board : Board) (placed : List Placed) (judged : L
     -- an entry behind one that is not judged
     pub passed-over : (line : ℕ) → old.unsure ≡ Some line → new.judge ≡ old.judge
         → new.unsure ≡ old.unsure → new.differs ≡ old.differs → new.is_empty ≡ false
-        → AreBeingJudged refuses board (placed ++ one ∷ []) judged new
+        → AreBeingJudged may board (placed ++ one ∷ []) judged new
     passed-over line is judge-is unsure-is differs-is empty-is =
         let at : line_at placed (length judged) ≡ Some line = sym being.unsure_is ∙ is in
         let less = line-within placed (length judged) line at in
         record {
           board_is = ap (λ j. j.board) judge-is ∙ being.board_is;
-          refuses_is = ap (λ j. j.refuses) judge-is ∙ being.refuses_is;
+          unseen_is = ap (λ j. j.unseen) judge-is ∙ being.unseen_is;
           places = λ none. absurd (let some = sym none ∙ unsure-is ∙ is in cc);
           knows = λ none. absurd (let some = sym none ∙ unsure-is ∙ is in cc);
           are = are-later;
@@ -127,13 +127,13 @@ module _ (refuses : Refusals) (board : Board) (placed : List Placed) (judged : L
       -- an entry behind which more platforms may be than there are places
       pub now-unsure : ((entries : List Entry) → Knows old.judge entries
           → AreTooMany old.judge entries) → new.judge.board ≡ old.judge.board
-          → new.judge.refuses ≡ old.judge.refuses → new.unsure ≡ Some one.line
+          → new.judge.unseen ≡ old.judge.unseen → new.unsure ≡ Some one.line
           → new.differs ≡ old.differs → new.is_empty ≡ false
-          → AreBeingJudged refuses board (placed ++ one ∷ []) judged new
-      now-unsure many board-is refuses-is unsure-is differs-is empty-is =
+          → AreBeingJudged may board (placed ++ one ∷ []) judged new
+      now-unsure many board-is unseen-is unsure-is differs-is empty-is =
           record {
             board_is = board-is ∙ being.board_is;
-            refuses_is = refuses-is ∙ being.refuses_is;
+            unseen_is = unseen-is ∙ being.unseen_is;
             places = λ none. absurd (let some = sym none ∙ unsure-is in cc);
             knows = λ none. absurd (let some = sym none ∙ unsure-is in cc);
             are = are-later;
@@ -142,11 +142,11 @@ module _ (refuses : Refusals) (board : Board) (placed : List Placed) (judged : L
                 let places = being.places sure in
                 let count : 1 + length judge.guesses + length judge.spare ≡ 2 + PLACES =
                 omega (arith, places) in
-                subst (AreMany refuses board (behind judged)) count
-                (subst (λ x. AreMany refuses x (behind judged)
+                subst (AreMany may board (behind judged)) count
+                (subst (λ x. AreMany may x (behind judged)
                 (1 + length judge.guesses + length judge.spare)) being.board_is
                 (subst (λ x. AreMany x judge.board (behind judged)
-                (1 + length judge.guesses + length judge.spare)) being.refuses_is
+                (1 + length judge.guesses + length judge.spare)) being.unseen_is
                 (many (behind judged) (being.knows sure all))));
             unsure_is = unsure-is ∙ sym (ap (line_at (placed ++ one ∷ [])) same-length
                 ∙ line-last placed one);
@@ -158,13 +158,13 @@ module _ (refuses : Refusals) (board : Board) (placed : List Placed) (judged : L
       module _ (v : Verdict) (fits : (entries : List Entry) → Knows old.judge entries
           → Fits (finding_of one.entry v) → Knows new.judge (judged_as one.entry v ∷ entries))
           (legal : (entries : List Entry) → Knows old.judge entries → Fits (finding_of one.entry v)
-          → HasLegalHistory old.judge.refuses old.judge.board (judged_as one.entry v ∷ entries))
+          → HasLegalHistory old.judge.unseen old.judge.board (judged_as one.entry v ∷ entries))
           (differs : (entries : List Entry) → Knows old.judge entries
           → ¬ (Fits (finding_of one.entry v))
-          → ¬ (HasLegalHistory old.judge.refuses old.judge.board (one.entry ∷ entries)))
+          → ¬ (HasLegalHistory old.judge.unseen old.judge.board (one.entry ∷ entries)))
           (places : length new.judge.guesses + length new.judge.spare ≡ length old.judge.guesses +
           length old.judge.spare) (board-is : new.judge.board ≡ old.judge.board)
-          (refuses-is : new.judge.refuses ≡ old.judge.refuses) where
+          (unseen-is : new.judge.unseen ≡ old.judge.unseen) where
         abbrev next : Judged
         next = record { line = one.line; entry = one.entry; verdict = v }
 
@@ -177,40 +177,40 @@ module _ (refuses : Refusals) (board : Board) (placed : List Placed) (judged : L
             ∙ get_or-append_seam placed one [] one)
 
         legal-there : All DoesFit judged → Fits (finding_of one.entry v)
-            → HasLegalHistory refuses board (judged_as one.entry v ∷ behind judged)
+            → HasLegalHistory may board (judged_as one.entry v ∷ behind judged)
         legal-there all fit =
             subst (λ x. HasLegalHistory x board (judged_as one.entry v ∷ behind judged))
-            being.refuses_is
-            (subst (λ x. HasLegalHistory old.judge.refuses x (judged_as one.entry v ∷ behind judged))
+            being.unseen_is
+            (subst (λ x. HasLegalHistory old.judge.unseen x (judged_as one.entry v ∷ behind judged))
             being.board_is (legal (behind judged) (being.knows sure all) fit))
 
         differs-there : All DoesFit judged → ¬ (Fits (finding_of one.entry v))
-            → ¬ (HasLegalHistory refuses board (one.entry ∷ behind judged))
+            → ¬ (HasLegalHistory may board (one.entry ∷ behind judged))
         differs-there all away =
-            subst (λ x. ¬ (HasLegalHistory x board (one.entry ∷ behind judged))) being.refuses_is
-            (subst (λ x. ¬ (HasLegalHistory old.judge.refuses x (one.entry ∷ behind judged)))
+            subst (λ x. ¬ (HasLegalHistory x board (one.entry ∷ behind judged))) being.unseen_is
+            (subst (λ x. ¬ (HasLegalHistory old.judge.unseen x (one.entry ∷ behind judged)))
             being.board_is (differs (behind judged) (being.knows sure all) away))
 
         pub now-judged : new.unsure ≡ None → new.differs ≡ list_any does_differ judged || does_differ
             (record { line = one.line; entry = one.entry; verdict = v }) → new.is_empty ≡ false
-            → AreBeingJudged refuses board (placed ++ one ∷ [])
+            → AreBeingJudged may board (placed ++ one ∷ [])
             (judged ++ record { line = one.line; entry = one.entry; verdict = v } ∷ []) new
         now-judged unsure-is differs-is empty-is =
             let all-placed = placed ++ one ∷ [] in
-            let more-judged = longer refuses board all-placed judged one v are-later less is
+            let more-judged = longer may board all-placed judged one v are-later less is
             legal-there differs-there in
             let more-placed = length-append placed (one ∷ []) in
             let same = same-length in
             record {
               board_is = board-is ∙ being.board_is;
-              refuses_is = refuses-is ∙ being.refuses_is;
+              unseen_is = unseen-is ∙ being.unseen_is;
               places = λ _. places ∙ being.places sure;
               knows = λ _ all.
                   let both = All-pop DoesFit (judged ++ next ∷ []) judged (Some next) refl all in
-                  subst (Knows new.judge) (sym (shown refuses board all-placed judged one v are-later
+                  subst (Knows new.judge) (sym (shown may board all-placed judged one v are-later
                   less is legal-there differs-there))
                   (fits (behind judged) (being.knows sure both.0) both.1);
-              are = judged-more refuses board all-placed judged one v are-later less is legal-there
+              are = judged-more may board all-placed judged one v are-later less is legal-there
                   differs-there;
               many = λ few. absurd (omega (arith, few, more-judged, more-placed, same));
               unsure_is = unsure-is ∙ sym (line-past all-placed (length (judged ++ next ∷ []))

@@ -9,7 +9,7 @@ use Rattle.scmi_io.specs.declared.input.TheConstants.{INPUT_BYTES}
 use Rattle.scmi_io.specs.declared.input_error.InputError.{InputError}
 use Rattle.scmi_io.specs.declared.input_error.InputError.TheVariants as input
 use Rattle.scmi_plan.specs.Board.{Board}
-use Rattle.scmi_judge.specs.declared.unseen.Refusals.{Refusals}
+use Rattle.scmi_judge.specs.declared.unseen.Unseen.{Unseen}
 use Rattle.scmi_check.specs.Check.{GivesFound, IsEndWithout, IsFaultOfRecord, IsFoundOf, IsRecordText}
 use Rattle.scmi_check.specs.CheckError.{line_error}
 use Rattle.scmi_check.specs.Listener.{Grows}
@@ -32,12 +32,12 @@ IsLeft first texts number text rest = (lines_left (whole text) ≡ first ++ line
     (lines_of rest)) × (lines_of text ≡ texts ++ lines_of rest) × (number ≡ last_behind 0 texts)
 
 -- the lines of a record up to the one of this number were read
-pub record IsReadTo (Means : List ℕ → List ℕ → Type 0) (protocols : List ℕ) (refuses : Refusals)
+pub record IsReadTo (Means : List ℕ → List ℕ → Type 0) (protocols : List ℕ) (may : Unseen)
     (board : Board) (known left : Option (List ℕ)) (number : ℕ) (c : Check)
     (before after : Option (List Judged)) (noted now : Option (List Note)) : Type 0 where
   pub first : List Line
   pub texts : List (List ℕ)
-  pub adds : AddsLines Means refuses board (nothing_shown protocols) []
+  pub adds : AddsLines Means may board (nothing_shown protocols) []
       [] first c before after noted now
   pub lines : IfSome known (λ text. IsSomeAnd left (IsLeft first texts number text))
 
@@ -46,16 +46,16 @@ unfolding last_behind
 no-lines = refl
 
 -- none was read
-pub read-none : (Means : List ℕ → List ℕ → Type 0) (protocols : List ℕ) (refuses : Refusals)
+pub read-none : (Means : List ℕ → List ℕ → Type 0) (protocols : List ℕ) (may : Unseen)
     (board : Board) (known left : Option (List ℕ)) (c : Check) (given : Option (List Judged))
     (noted : Option (List Note)) → left ≡ known
-    → IsUnderWay refuses board (nothing_shown protocols) [] [] c
-    → IsReadTo Means protocols refuses board known left 0 c given given noted noted
-read-none Means protocols refuses board known left c given noted is way =
+    → IsUnderWay may board (nothing_shown protocols) [] [] c
+    → IsReadTo Means protocols may board known left 0 c given given noted noted
+read-none Means protocols may board known left c given noted is way =
     record {
       first = [];
       texts = [];
-      adds = adds-none Means refuses board (nothing_shown protocols) [] [] c given noted way;
+      adds = adds-none Means may board (nothing_shown protocols) [] [] c given noted way;
       lines = by known left is;
     } where
       by : (known left : Option (List ℕ)) → left ≡ known
@@ -65,10 +65,10 @@ read-none Means protocols refuses board known left c given noted is way =
           (refl, refl, no-lines)
 
 -- one line more, which a line feed ends
-module _ (Means : List ℕ → List ℕ → Type 0) (protocols : List ℕ) (refuses : Refusals)
+module _ (Means : List ℕ → List ℕ → Type 0) (protocols : List ℕ) (may : Unseen)
     (board : Board) (known left : Option (List ℕ)) (number : ℕ) (c : Check)
     (before after : Option (List Judged)) (noted now : Option (List Note))
-    (read : IsReadTo Means protocols refuses board known left number c before after noted now)
+    (read : IsReadTo Means protocols may board known left number c before after noted now)
     (text : List ℕ) (ended : Bool) (is : IfSome left (λ input. text ≡ first_line input))
     (ends : IfSome left (λ input. ended ≡ has_line_feed input))
     (next_number : ℕ) (numbered : next_number ≡ number_behind number) where
@@ -103,14 +103,14 @@ module _ (Means : List ℕ → List ℕ → Type 0) (protocols : List ℕ) (refu
   pub read-on : (rest : Option (List ℕ)) (mid : Check) (later : Option (List Judged))
       (late : Option (List Note)) → IfSome left (λ input. rest ≡ Some (after_line input))
       → ended ≡ true
-      → ((next : Shows) (js : List Judged) (ns : List Note) → IsUnderWay refuses board next js ns c
-      → AddsLines Means refuses board next js ns (if_counts line) mid after later now late)
-      → IsReadTo Means protocols refuses board known rest next_number mid before later noted late
+      → ((next : Shows) (js : List Judged) (ns : List Note) → IsUnderWay may board next js ns c
+      → AddsLines Means may board next js ns (if_counts line) mid after later now late)
+      → IsReadTo Means protocols may board known rest next_number mid before later noted late
   read-on rest mid later late moved on adds =
       record {
         first = read.first ++ if_counts line;
         texts = read.texts ++ text ∷ [];
-        adds = adds-more Means refuses board (nothing_shown protocols) [] [] read.first
+        adds = adds-more Means may board (nothing_shown protocols) [] [] read.first
             (if_counts line) c mid before after later noted now late read.adds adds;
         lines = by known left read.lines is ends moved;
       } where
@@ -156,12 +156,12 @@ module _ (Means : List ℕ → List ℕ → Type 0) (protocols : List ℕ) (refu
   module _ (mid : Check) (later : Option (List Judged)) (late : Option (List Note))
       (off : ended ≡ false)
       (adds : (next : Shows) (js : List Judged) (ns : List Note)
-      → IsUnderWay refuses board next js ns c
-      → AddsLines Means refuses board next js ns (if_counts line) mid after later now late)
+      → IsUnderWay may board next js ns c
+      → AddsLines Means may board next js ns (if_counts line) mid after later now late)
     where
-      all : AddsLines Means refuses board (nothing_shown protocols) [] []
+      all : AddsLines Means may board (nothing_shown protocols) [] []
           (read.first ++ if_counts line) mid before later noted late
-      all = adds-more Means refuses board (nothing_shown protocols) [] [] read.first
+      all = adds-more Means may board (nothing_shown protocols) [] [] read.first
           (if_counts line) c mid before after later noted now late read.adds adds
 
       encodes : IfSome known (λ t. IsRecordText Means protocols board t (finished all.next))
@@ -179,10 +179,10 @@ module _ (Means : List ℕ → List ℕ → Type 0) (protocols : List ℕ) (refu
 
       all-found : (checked : Checked) (last : Option (List Judged)) (end : Option (List Note))
           → ((shows : Shows) (js : List Judged) (ns : List Note)
-          → IsUnderWay refuses board shows js ns mid
-          → (remarks : List Note) × IsFoundOf refuses board (finished shows) js
+          → IsUnderWay may board shows js ns mid
+          → (remarks : List Note) × IsFoundOf may board (finished shows) js
           (ns ++ remarks) checked × Grows late end remarks)
-          → last ≡ later → GivesFound Means protocols refuses board known before last noted end
+          → last ≡ later → GivesFound Means protocols may board known before last noted end
           checked
       all-found checked last end finds same =
           let found = finds all.next ([] ++ all.is_told.more)
@@ -198,7 +198,7 @@ module _ (Means : List ℕ → List ℕ → Type 0) (protocols : List ℕ) (refu
           }
 
       nothing-found : (e : CheckError) → ((shows : Shows) (js : List Judged) (ns : List Note)
-          → IsUnderWay refuses board shows js ns mid → IsEndWithout (finished shows) e)
+          → IsUnderWay may board shows js ns mid → IsEndWithout (finished shows) e)
           → IfSome known (λ t. IsFaultOfRecord Means protocols board t e)
       nothing-found e without = by e known (without all.next ([] ++ all.is_told.more)
           ([] ++ all.is_told.remarks) all.is_told.way) encodes where
@@ -219,29 +219,29 @@ module _ (Means : List ℕ → List ℕ → Type 0) (protocols : List ℕ) (refu
       pub ends-found : (r : Result Checked CheckError) (last : Option (List Judged))
           (end : Option (List Note))
           → ((shows : Shows) (js : List Judged) (ns : List Note)
-          → IsUnderWay refuses board shows js ns mid
+          → IsUnderWay may board shows js ns mid
           → IfOk r (λ checked. (remarks : List Note)
-          × IsFoundOf refuses board (finished shows) js (ns ++ remarks) checked
+          × IsFoundOf may board (finished shows) js (ns ++ remarks) checked
           × Grows late end remarks))
-          → OnOk r (last ≡ later) → IfOk r (GivesFound Means protocols refuses board known before last
+          → OnOk r (last ≡ later) → IfOk r (GivesFound Means protocols may board known before last
           noted end)
       ends-found (Ok checked) last end finds same = all-found checked last end finds same
       ends-found (Err e) last end finds same = tt
 
       pub ends-without : (r : Result Checked CheckError)
           → ((shows : Shows) (js : List Judged) (ns : List Note)
-          → IsUnderWay refuses board shows js ns mid → IfErr r (IsEndWithout (finished shows)))
+          → IsUnderWay may board shows js ns mid → IfErr r (IsEndWithout (finished shows)))
           → IfErr r (λ e. IfSome known (λ t. IsFaultOfRecord Means protocols board t e))
       ends-without (Ok checked) without = tt
       ends-without (Err e) without = nothing-found e without
 
   -- a line that can't be there
   pub line-fails : (e : CheckError) → ((next : Shows) (js : List Judged) (ns : List Note)
-      → IsUnderWay refuses board next js ns c → IsStopBy Means board next line e)
+      → IsUnderWay may board next js ns c → IsStopBy Means board next line e)
       → IfSome known (λ t. IsFaultOfRecord Means protocols board t e)
   line-fails e stops = by e known left read.lines is ends stops where
     at_all : (e : CheckError) → ((next : Shows) (js : List Judged) (ns : List Note)
-        → IsUnderWay refuses board next js ns c → IsStopBy Means board next line e)
+        → IsUnderWay may board next js ns c → IsStopBy Means board next line e)
         → IsStopBy Means board read.adds.next line e
     at_all e stops = stops read.adds.next ([] ++ read.adds.is_told.more)
         ([] ++ read.adds.is_told.remarks) read.adds.is_told.way
@@ -251,13 +251,13 @@ module _ (Means : List ℕ → List ℕ → Type 0) (protocols : List ℕ) (refu
         → IfSome left (λ input. text ≡ first_line input)
         → IfSome left (λ input. ended ≡ has_line_feed input)
         → ((next : Shows) (js : List Judged) (ns : List Note)
-        → IsUnderWay refuses board next js ns c → IsStopBy Means board next line e)
+        → IsUnderWay may board next js ns c → IsStopBy Means board next line e)
         → IfSome known (λ t. IsFaultOfRecord Means protocols board t e)
     by e None left lines one end stops = tt
     by e (Some t) None lines one end stops = absurd lines
     by (error.Record n) (Some t) (Some input) lines one end stops =
         let parts = split input one end in
-        let wrong = wrong-line Means refuses board (nothing_shown protocols) []
+        let wrong = wrong-line Means may board (nothing_shown protocols) []
         [] read.first c before after noted now line n read.adds stops in (
           read.first ++ if_counts line,
           parts.0,

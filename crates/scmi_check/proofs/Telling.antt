@@ -6,7 +6,7 @@ use Rattle.scmi_board.specs.Lines.{Line, is_significant}
 use Rattle.scmi_board.specs.declared.line_error.LineError.{LineError}
 use Rattle.scmi_board.specs.declared.line_error.LineError.TheVariants.{Form, Memory}
 use Rattle.scmi_plan.specs.Board.{Board}
-use Rattle.scmi_judge.specs.declared.unseen.Refusals.{Refusals}
+use Rattle.scmi_judge.specs.declared.unseen.Unseen.{Unseen}
 use Rattle.scmi_text.specs.TextLines.{after_each_line}
 use Rattle.scmi_check.specs.CheckError.{error_of_text}
 use Rattle.scmi_check.specs.LeftOut.{with_notes}
@@ -25,32 +25,32 @@ use Rattle.scmi_check.proofs.Growing.{append-none, grows-more, grows-none}
 use Rattle.scmi_check.proofs.Onto.{line-onto}
 
 -- no entry more is judged
-pub finds-none : (refuses : Refusals) (board : Board) (placed : List Placed) (judged : List Judged)
-    (p : Progress) (given : Option (List Judged)) → AreBeingJudged refuses board placed judged p
-    → FindsMore refuses board (placed ++ []) judged p given given
-finds-none refuses board placed judged p given being =
+pub finds-none : (may : Unseen) (board : Board) (placed : List Placed) (judged : List Judged)
+    (p : Progress) (given : Option (List Judged)) → AreBeingJudged may board placed judged p
+    → FindsMore may board (placed ++ []) judged p given given
+finds-none may board placed judged p given being =
     record {
       more = [];
-      are = subst (λ ps. AreBeingJudged refuses board ps (judged ++ []) p)
-          (sym (append-none placed)) (subst (λ js. AreBeingJudged refuses board placed js p)
+      are = subst (λ ps. AreBeingJudged may board ps (judged ++ []) p)
+          (sym (append-none placed)) (subst (λ js. AreBeingJudged may board placed js p)
           (sym (append-none judged)) being);
       given = grows-none given;
     }
 
 -- some entries, and one more
-pub finds-more : (refuses : Refusals) (board : Board) (before placed : List Placed) (one : Placed)
+pub finds-more : (may : Unseen) (board : Board) (before placed : List Placed) (one : Placed)
     (judged : List Judged) (mid new : Progress) (first second third : Option (List Judged))
-    → FindsMore refuses board (before ++ placed) judged mid first second
-    → ((so_far : List Judged) → AreBeingJudged refuses board (before ++ placed) so_far mid
-    → FindsMore refuses board ((before ++ placed) ++ one ∷ []) so_far new second third)
-    → FindsMore refuses board (before ++ (placed ++ one ∷ [])) judged new first third
-finds-more refuses board before placed one judged mid new first second third found next =
+    → FindsMore may board (before ++ placed) judged mid first second
+    → ((so_far : List Judged) → AreBeingJudged may board (before ++ placed) so_far mid
+    → FindsMore may board ((before ++ placed) ++ one ∷ []) so_far new second third)
+    → FindsMore may board (before ++ (placed ++ one ∷ [])) judged new first third
+finds-more may board before placed one judged mid new first second third found next =
     let later = next (judged ++ found.more) found.are in
     record {
       more = found.more ++ later.more;
-      are = subst (λ ps. AreBeingJudged refuses board ps (judged ++ (found.more ++ later.more)) new)
+      are = subst (λ ps. AreBeingJudged may board ps (judged ++ (found.more ++ later.more)) new)
           (append_assoc before placed (one ∷ []))
-          (subst (λ js. AreBeingJudged refuses board ((before ++ placed) ++ one ∷ []) js new)
+          (subst (λ js. AreBeingJudged may board ((before ++ placed) ++ one ∷ []) js new)
           (append_assoc judged found.more later.more) later.are);
       given = grows-more first second third found.more later.more found.given later.given;
     }
@@ -71,14 +71,14 @@ onto-told placed notes shows =
     }) (sym (append-none (notes ++ shows.left.notes)))
 
 -- entries and notes are told
-pub told-way : (refuses : Refusals) (board : Board) (placed : List Placed) (judged : List Judged)
+pub told-way : (may : Unseen) (board : Board) (placed : List Placed) (judged : List Judged)
     (notes : List Note) (shows : Shows) (new : Check) (before after : Option (List Judged))
     (noted now : Option (List Note))
     → new.agents ≡ length board.agents → shows_of new.so_far ≡ told shows
-    → FindsMore refuses board (placed ++ shows.entries) judged new.progress before after
+    → FindsMore may board (placed ++ shows.entries) judged new.progress before after
     → Grows noted now shows.left.notes
-    → IsTold refuses board (onto placed notes shows) judged notes new before after noted now
-told-way refuses board placed judged notes shows new before after noted now agents is finds grows =
+    → IsTold may board (onto placed notes shows) judged notes new before after noted now
+told-way may board placed judged notes shows new before after noted now agents is finds grows =
     record {
       more = finds.more;
       remarks = shows.left.notes;
@@ -96,8 +96,8 @@ told-way refuses board placed judged notes shows new before after noted now agen
     }
 
 -- a line that can be there
-module _ (refuses : Refusals) (board : Board) (all : Shows) (judged : List Judged)
-    (notes : List Note) (old : Check) (way : IsUnderWay refuses board all judged notes old)
+module _ (may : Unseen) (board : Board) (all : Shows) (judged : List Judged)
+    (notes : List Note) (old : Check) (way : IsUnderWay may board all judged notes old)
     (line : Line) where
   same-line : (made : Option Shows) → with_line old.agents (shows_of old.so_far) line ≡ made
       → with_line (length board.agents) all line ≡ option_map (onto way.placed notes) made
@@ -109,8 +109,8 @@ module _ (refuses : Refusals) (board : Board) (all : Shows) (judged : List Judge
 
   pub adds-line : (mid : Shows) (new : Check) (before after : Option (List Judged))
       (noted now : Option (List Note)) → with_line old.agents (shows_of old.so_far) line ≡ Some mid
-      → IsTold refuses board (onto way.placed notes mid) judged notes new before after noted now
-      → AddsLine refuses board all judged notes line new before after noted now
+      → IsTold may board (onto way.placed notes mid) judged notes new before after noted now
+      → AddsLine may board all judged notes line new before after noted now
   adds-line mid new before after noted now is tells =
       record { next = onto way.placed notes mid; makes = same-line (Some mid) is; is_told = tells }
 
@@ -190,12 +190,12 @@ skips-line : (line : Line) → is_significant line.text ≡ false → if_counts 
 skips-line line is = ap (λ (b : Bool). if b then line ∷ [] else []) is
 
 -- no line
-pub adds-none : (Means : List ℕ → List ℕ → Type 0) (refuses : Refusals) (board : Board)
+pub adds-none : (Means : List ℕ → List ℕ → Type 0) (may : Unseen) (board : Board)
     (all : Shows) (judged : List Judged) (notes : List Note) (c : Check)
     (given : Option (List Judged)) (noted : Option (List Note))
-    → IsUnderWay refuses board all judged notes c
-    → AddsLines Means refuses board all judged notes [] c given given noted noted
-adds-none Means refuses board all judged notes c given noted way =
+    → IsUnderWay may board all judged notes c
+    → AddsLines Means may board all judged notes [] c given given noted noted
+adds-none Means may board all judged notes c given noted way =
     record {
       givens = [];
       meant = tt;
@@ -204,8 +204,8 @@ adds-none Means refuses board all judged notes c given noted way =
       is_told = record {
         more = [];
         remarks = [];
-        way = subst (λ js. IsUnderWay refuses board all js (notes ++ []) c)
-            (sym (append-none judged)) (subst (λ ns. IsUnderWay refuses board all judged ns c)
+        way = subst (λ js. IsUnderWay may board all js (notes ++ []) c)
+            (sym (append-none judged)) (subst (λ ns. IsUnderWay may board all judged ns c)
             (sym (append-none notes)) way);
         given = grows-none given;
         told = grows-none noted;
@@ -213,28 +213,28 @@ adds-none Means refuses board all judged notes c given noted way =
     }
 
 -- a line that is skipped
-pub adds-nothing : (Means : List ℕ → List ℕ → Type 0) (refuses : Refusals) (board : Board)
+pub adds-nothing : (Means : List ℕ → List ℕ → Type 0) (may : Unseen) (board : Board)
     (all : Shows) (judged : List Judged) (notes : List Note) (line : Line) (c : Check)
     (given : Option (List Judged)) (noted : Option (List Note))
-    → is_significant line.text ≡ false → IsUnderWay refuses board all judged notes c
-    → AddsLines Means refuses board all judged notes (if_counts line) c given given noted noted
-adds-nothing Means refuses board all judged notes line c given noted skips way =
-    subst (λ ls. AddsLines Means refuses board all judged notes ls c given given noted noted)
-    (sym (skips-line line skips)) (adds-none Means refuses board all judged notes c given noted
+    → is_significant line.text ≡ false → IsUnderWay may board all judged notes c
+    → AddsLines Means may board all judged notes (if_counts line) c given given noted noted
+adds-nothing Means may board all judged notes line c given noted skips way =
+    subst (λ ls. AddsLines Means may board all judged notes ls c given given noted noted)
+    (sym (skips-line line skips)) (adds-none Means may board all judged notes c given noted
     way)
 
 -- a line that counts
-pub adds-given : (Means : List ℕ → List ℕ → Type 0) (refuses : Refusals) (board : Board)
+pub adds-given : (Means : List ℕ → List ℕ → Type 0) (may : Unseen) (board : Board)
     (all : Shows) (judged : List Judged) (notes : List Note) (line : Line) (given : List ℕ)
     (c : Check) (before after : Option (List Judged)) (noted now : Option (List Note))
     → is_significant line.text ≡ true → Means line.text given
-    → AddsLine refuses board all judged notes
+    → AddsLine may board all judged notes
     (record { number = line.number; text = given }) c before after noted now
-    → AddsLines Means refuses board all judged notes (if_counts line) c before after noted now
-adds-given Means refuses board all judged notes line given c before after noted now counts means
+    → AddsLines Means may board all judged notes (if_counts line) c before after noted now
+adds-given Means may board all judged notes line given c before after noted now counts means
     adds =
     let read : Line = record { number = line.number; text = given } in
-    subst (λ ls. AddsLines Means refuses board all judged notes ls c before after noted now)
+    subst (λ ls. AddsLines Means may board all judged notes ls c before after noted now)
     (sym (counts-line line counts))
     (record {
       givens = read ∷ [];
@@ -261,14 +261,14 @@ stops-given Means board all line given (error.Long number) counts means stop = a
 stops-given Means board all line given error.Empty counts means stop = absurd stop
 
 -- lines, and last others
-pub adds-more : (Means : List ℕ → List ℕ → Type 0) (refuses : Refusals) (board : Board)
+pub adds-more : (Means : List ℕ → List ℕ → Type 0) (may : Unseen) (board : Board)
     (all : Shows) (judged : List Judged) (notes : List Note) (first last : List Line)
     (mid new : Check) (j0 j1 j2 : Option (List Judged)) (n0 n1 n2 : Option (List Note))
-    → AddsLines Means refuses board all judged notes first mid j0 j1 n0 n1
-    → ((next : Shows) (js : List Judged) (ns : List Note) → IsUnderWay refuses board next js ns mid
-    → AddsLines Means refuses board next js ns last new j1 j2 n1 n2)
-    → AddsLines Means refuses board all judged notes (first ++ last) new j0 j2 n0 n2
-adds-more Means refuses board all judged notes first last mid new j0 j1 j2 n0 n1 n2 one other =
+    → AddsLines Means may board all judged notes first mid j0 j1 n0 n1
+    → ((next : Shows) (js : List Judged) (ns : List Note) → IsUnderWay may board next js ns mid
+    → AddsLines Means may board next js ns last new j1 j2 n1 n2)
+    → AddsLines Means may board all judged notes (first ++ last) new j0 j2 n0 n2
+adds-more Means may board all judged notes first last mid new j0 j1 j2 n0 n1 n2 one other =
     let two = other one.next (judged ++ one.is_told.more)
     (notes ++ one.is_told.remarks) one.is_told.way in
     record {
@@ -280,10 +280,10 @@ adds-more Means refuses board all judged notes first last mid new j0 j1 j2 n0 n1
       is_told = record {
         more = one.is_told.more ++ two.is_told.more;
         remarks = one.is_told.remarks ++ two.is_told.remarks;
-        way = subst (λ js. IsUnderWay refuses board two.next js
+        way = subst (λ js. IsUnderWay may board two.next js
             (notes ++ (one.is_told.remarks ++ two.is_told.remarks)) new)
             (append_assoc judged one.is_told.more two.is_told.more)
-            (subst (λ ns. IsUnderWay refuses board two.next
+            (subst (λ ns. IsUnderWay may board two.next
             ((judged ++ one.is_told.more) ++ two.is_told.more) ns new)
             (append_assoc notes one.is_told.remarks two.is_told.remarks) two.is_told.way);
         given = grows-more j0 j1 j2 one.is_told.more two.is_told.more one.is_told.given
@@ -294,15 +294,15 @@ adds-more Means refuses board all judged notes first last mid new j0 j1 j2 n0 n1
     }
 
 -- the first of these lines are read up to one that can't be there
-pub wrong-line : (Means : List ℕ → List ℕ → Type 0) (refuses : Refusals) (board : Board)
+pub wrong-line : (Means : List ℕ → List ℕ → Type 0) (may : Unseen) (board : Board)
     (all : Shows) (judged : List Judged) (notes : List Note) (first : List Line) (mid : Check)
     (j0 j1 : Option (List Judged)) (n0 n1 : Option (List Note)) (line : Line) (number : ℕ)
-    → AddsLines Means refuses board all judged notes first mid j0 j1 n0 n1
-    → ((next : Shows) (js : List Judged) (ns : List Note) → IsUnderWay refuses board next js ns mid
+    → AddsLines Means may board all judged notes first mid j0 j1 n0 n1
+    → ((next : Shows) (js : List Judged) (ns : List Note) → IsUnderWay may board next js ns mid
     → IsStopBy Means board next line (error.Record number))
     → (givens : List Line) × AreMeant Means (first ++ if_counts line) givens
     × (after_each_line (with_line (length board.agents)) all givens ≡ Err number)
-wrong-line Means refuses board all judged notes first mid j0 j1 n0 n1 line number adds stops =
+wrong-line Means may board all judged notes first mid j0 j1 n0 n1 line number adds stops =
     let stop = stops adds.next (judged ++ adds.is_told.more)
     (notes ++ adds.is_told.remarks) adds.is_told.way in
     let read : Line = record { number = line.number; text = stop.0 } in (

@@ -12,7 +12,7 @@ use Rattle.scmi_plan.specs.Board.{Board}
 use Rattle.scmi_plan.specs.PlanError.{number}
 use Rattle.scmi_plan.specs.declared.plan_error.PlanError.{PlanError}
 use Rattle.scmi_judge.specs.Guesses.{AreMany}
-use Rattle.scmi_judge.specs.declared.unseen.Refusals.{Refusals}
+use Rattle.scmi_judge.specs.declared.unseen.Unseen.{Unseen}
 use Rattle.scmi_text.specs.TextLines.{after_each_line}
 use Rattle.scmi_check.specs.CheckError.{fault_status, fault_text}
 use Rattle.scmi_check.specs.Checked.{status_by}
@@ -45,12 +45,12 @@ IsRecordText Means judged board text read =
 -- that are judged, however many are taken from the first on, none differs if and only if they have
 -- a legal history. If not all are judged, and none of these differs, then there are more platforms
 -- than are kept, no two the same, each of which may be behind these
-pub record IsFoundOf (refuses : Refusals) (board : Board) (read : RecordView) (judged : List Judged)
+pub record IsFoundOf (may : Unseen) (board : Board) (read : RecordView) (judged : List Judged)
     (notes : List Note) (checked : Checked) : Type 0 where
   pub some : 0 < length read.entries
-  pub are : AreJudged refuses board read.entries judged
+  pub are : AreJudged may board read.entries judged
   pub many : length judged < length read.entries → All DoesFit judged
-      → AreMany refuses board (behind judged) (2 + PLACES)
+      → AreMany may board (behind judged) (2 + PLACES)
   pub left_is : read.left
       ≡ record { notes = notes; skipped = checked.skipped; protocols = checked.protocols.items }
   pub unsure_is : checked.unsure ≡ line_at read.entries (length judged)
@@ -72,7 +72,7 @@ pub record IsCheckedRecord (Means : List ℕ → List ℕ → Type 0) (options :
   pub of_board : IfSome board_known (λ text. IsPlanText text board)
   pub of_record : IfSome record_known (λ text. IsRecordText Means options.protocols.now board text
       read)
-  pub found : IsFoundOf options.refusals board read judged notes checked
+  pub found : IsFoundOf options.unseen board read judged notes checked
 
 -- the same, and the listener was given these verdicts and notes
 pub record GivesCheckedRecord (Means : List ℕ → List ℕ → Type 0) (options : CheckOptions)
@@ -85,14 +85,14 @@ pub record GivesCheckedRecord (Means : List ℕ → List ℕ → Type 0) (option
   pub told : Grows noted now notes
 
 -- the same of a record of a platform of this board
-pub record GivesFound (Means : List ℕ → List ℕ → Type 0) (protocols : List ℕ) (refuses : Refusals)
+pub record GivesFound (Means : List ℕ → List ℕ → Type 0) (protocols : List ℕ) (may : Unseen)
     (board : Board) (known : Option (List ℕ)) (before after : Option (List Judged))
     (noted now : Option (List Note)) (checked : Checked) : Type 0 where
   pub read : RecordView
   pub judged : List Judged
   pub notes : List Note
   pub of_record : IfSome known (λ text. IsRecordText Means protocols board text read)
-  pub found : IsFoundOf refuses board read judged notes checked
+  pub found : IsFoundOf may board read judged notes checked
   pub given : Grows before after judged
   pub told : Grows noted now notes
 
@@ -151,7 +151,7 @@ IsBefore (Record line) lines = first_number_in lines ≡ Some line
 IsBefore _ lines = ⊤
 
 -- this is found of the lines of a text before one with a fault, and given to the listener
-pub record GivesBefore (Means : List ℕ → List ℕ → Type 0) (protocols : List ℕ) (refuses : Refusals)
+pub record GivesBefore (Means : List ℕ → List ℕ → Type 0) (protocols : List ℕ) (may : Unseen)
     (board : Board) (fault : CheckError) (text : List ℕ) (before after : Option (List Judged))
     (noted now : Option (List Note)) : Type 0 where
   pub first : List Line
@@ -164,7 +164,7 @@ pub record GivesBefore (Means : List ℕ → List ℕ → Type 0) (protocols : L
   pub meant : AreMeant Means first givens
   pub shows_is : after_each_line (with_line (length board.agents)) (nothing_shown protocols) givens
       ≡ Ok shows
-  pub are : AreJudged refuses board shows.entries judged
+  pub are : AreJudged may board shows.entries judged
   pub given : Grows before after judged
   pub told : Grows noted now shows.left.notes
 
@@ -174,7 +174,7 @@ pub record GivesBeforeFault (Means : List ℕ → List ℕ → Type 0) (options 
     (before after : Option (List Judged)) (noted now : Option (List Note)) : Type 0 where
   pub board : Board
   pub of_board : IfSome board_known (λ text. IsPlanText text board)
-  pub found : IfSome record_known (λ text. GivesBefore Means options.protocols.now options.refusals
+  pub found : IfSome record_known (λ text. GivesBefore Means options.protocols.now options.unseen
       board fault text before after noted now)
 
 -- a fault of a record's text, if the platform is of this board and these protocols are judged: its

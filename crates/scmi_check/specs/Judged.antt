@@ -5,7 +5,7 @@ use Rattle.std.specs.Option.{option_map}
 use Rattle.scmi_plan.specs.Board.{Board}
 use Rattle.scmi_judge.specs.Behind.{IsRight}
 use Rattle.scmi_judge.specs.declared.entry.Entry.{Entry}
-use Rattle.scmi_judge.specs.declared.unseen.Refusals.{Refusals}
+use Rattle.scmi_judge.specs.declared.unseen.Unseen.{Unseen}
 use Rattle.scmi_check.specs.Finding.{Fits, finding_of, is_difference, judged_as}
 use Rattle.scmi_check.specs.declared.judged.Judged.{Judged}
 use Rattle.scmi_check.specs.declared.placed.Placed.{Placed}
@@ -33,10 +33,10 @@ behind judged = reverse (map meant judged)
 -- these are the first entries of a record with the verdicts on them: however many of them are taken, none of these
 -- differs, but by rules of the profile's own, if and only if a legal history of the board is behind them, with the reply
 -- that was due in place of each that differs by such a rule
-pub record AreJudged (refuses : Refusals) (board : Board) (placed : List Placed) (judged : List Judged) : Type 0 where
+pub record AreJudged (may : Unseen) (board : Board) (placed : List Placed) (judged : List Judged) : Type 0 where
   pub few : length judged ≤ length placed
   pub first : map placed_of judged ≡ take (length judged) placed
-  pub right : (count : ℕ) → count ≤ length judged → All DoesFit (take count judged) ↔ IsRight refuses board (map meant (take count judged))
+  pub right : (count : ℕ) → count ≤ length judged → All DoesFit (take count judged) ↔ IsRight may board (map meant (take count judged))
 
 -- the line of an entry of a record, by its place
 abbrev pub line_at : List Placed → ℕ → Option ℕ

@@ -4,7 +4,7 @@ use Rattle.std.specs.List.{All, list_any}
 use Rattle.scmi_plan.specs.Board.{Board}
 use Rattle.scmi_judge.specs.Guesses.{AreMany}
 use Rattle.scmi_judge.specs.Judging.{Knows}
-use Rattle.scmi_judge.specs.declared.unseen.Refusals.{Refusals}
+use Rattle.scmi_judge.specs.declared.unseen.Unseen.{Unseen}
 use Rattle.scmi_check.specs.Judged.{AreJudged, DoesFit, behind, does_differ, line_at}
 use Rattle.scmi_check.specs.Listener.{Grows}
 use Rattle.scmi_check.specs.declared.check.TheConstants.{PLACES}
@@ -15,15 +15,15 @@ use Rattle.scmi_check.specs.declared.progress.Progress.{Progress}
 -- of these entries so many are judged, with these verdicts: all, or those before the first behind
 -- which more platforms may be than there are places. As long as none differs the judge knows what
 -- may be behind them
-pub record AreBeingJudged (refuses : Refusals) (board : Board) (placed : List Placed)
+pub record AreBeingJudged (may : Unseen) (board : Board) (placed : List Placed)
     (judged : List Judged) (p : Progress) : Type 0 where
   pub board_is : p.judge.board ≡ board
-  pub refuses_is : p.judge.refuses ≡ refuses
+  pub unseen_is : p.judge.unseen ≡ may
   pub places : p.unsure ≡ None → length p.judge.guesses + length p.judge.spare ≡ 1 + PLACES
   pub knows : p.unsure ≡ None → All DoesFit judged → Knows p.judge (behind judged)
-  pub are : AreJudged refuses board placed judged
+  pub are : AreJudged may board placed judged
   pub many : length judged < length placed → All DoesFit judged
-      → AreMany refuses board (behind judged) (2 + PLACES)
+      → AreMany may board (behind judged) (2 + PLACES)
   pub unsure_is : p.unsure ≡ line_at placed (length judged)
   pub differs_is : p.differs ≡ list_any does_differ judged
   pub empty_is : p.is_empty ≡ (length placed == 0)
@@ -38,8 +38,8 @@ at_entry p empty = record {
 }
 
 -- of these entries some more are judged, and the listener is given these
-pub record FindsMore (refuses : Refusals) (board : Board) (placed : List Placed)
+pub record FindsMore (may : Unseen) (board : Board) (placed : List Placed)
     (judged : List Judged) (new : Progress) (before after : Option (List Judged)) : Type 0 where
   pub more : List Judged
-  pub are : AreBeingJudged refuses board placed (judged ++ more) new
+  pub are : AreBeingJudged may board placed (judged ++ more) new
   pub given : Grows before after more

@@ -2,7 +2,7 @@
 ghost use Rattle.std.specs.Prelude.{◌≡◌, ℕ, ◌+◌, [], List, length, IfOk, IfErr, IfSome};
 ghost use Rattle.scmi_plan.specs.Board.{Board};
 ghost use Rattle.scmi_judge.specs.Judging.{Knows};
-ghost use Rattle.scmi_judge.specs.declared.unseen.Refusals.{Refusals as Refused};
+ghost use Rattle.scmi_judge.specs.declared.unseen.Unseen.{Unseen as Hidden};
 ghost use Rattle.scmi_check.specs.Check.{GivesCheckedRecord, GivesFound, IsFaultOf, IsFaultOfBoard, IsFaultOfRecord, IsOfBoard, IsPlanText, GivesBefore, GivesBeforeFault, IsAtLine};
 ghost use Rattle.scmi_check.specs.CheckError.{line_error};
 ghost use Rattle.scmi_check.specs.RecordText.{nothing_shown};
@@ -17,7 +17,7 @@ use crate::under_way::Check;
 use scmi_board::{TextLine, read_valid_board};
 use scmi_core::CoreError;
 use scmi_io::{CountedReader, Input, InputError, read_rest};
-use scmi_judge::{Judge, Refusals};
+use scmi_judge::{Judge, Unseen};
 use scmi_plan::Plan;
 use std::alloc::Global;
 use std::io::Read;
@@ -50,7 +50,7 @@ pub fn check_record<B: Read, R: Read, N: Names, L: Listener>(
         (L.judged listener.new) (L.noted listener.old) (L.noted listener.new)) }
 {
     let Said { text, plan } = read_board(alloc, board)?;
-    let judge = judge_of(alloc, &text, &plan, options.refusals)?;
+    let judge = judge_of(alloc, &text, &plan, options.unseen)?;
     let check = Check::new(alloc, options.protocols, plan.agents(), judge);
     check_lines(alloc, record, names, check, listener)
 }
@@ -63,22 +63,22 @@ fn check_lines<R: Read, N: Names, L: Listener>(
     mut check: Check<'_>,
     listener: &mut L,
 ) -> Result<Checked, CheckError>
-    ensures found { (protocols : List ℕ) (refuses : Refused) (board : Board)
-        → IsUnderWay refuses board (nothing_shown protocols) [] [] check.entry
-        → IfOk result (GivesFound (N.means names.now) protocols refuses board
+    ensures found { (protocols : List ℕ) (may : Hidden) (board : Board)
+        → IsUnderWay may board (nothing_shown protocols) [] [] check.entry
+        → IfOk result (GivesFound (N.means names.now) protocols may board
         (R.remaining record.old) (L.judged listener.old) (L.judged listener.new)
         (L.noted listener.old) (L.noted listener.new)) }
-    ensures faults { (protocols : List ℕ) (refuses : Refused) (board : Board)
-        → IsUnderWay refuses board (nothing_shown protocols) [] [] check.entry
+    ensures faults { (protocols : List ℕ) (may : Hidden) (board : Board)
+        → IsUnderWay may board (nothing_shown protocols) [] [] check.entry
         → IfErr result (λ e. IfSome (R.remaining record.old)
         (λ text. IsFaultOfRecord (N.means names.now) protocols board text e)) }
-    ensures alone { (protocols : List ℕ) (refuses : Refused) (board : Board)
-        → IsUnderWay refuses board (nothing_shown protocols) [] [] check.entry
+    ensures alone { (protocols : List ℕ) (may : Hidden) (board : Board)
+        → IsUnderWay may board (nothing_shown protocols) [] [] check.entry
         → IfErr result (λ e. ¬ (IsOfBoard e)) }
-    ensures before { (protocols : List ℕ) (refuses : Refused) (board : Board)
-        → IsUnderWay refuses board (nothing_shown protocols) [] [] check.entry
+    ensures before { (protocols : List ℕ) (may : Hidden) (board : Board)
+        → IsUnderWay may board (nothing_shown protocols) [] [] check.entry
         → IfErr result (λ e. IsAtLine e → IfSome (R.remaining record.old)
-        (λ text. GivesBefore (N.means names.now) protocols refuses board e text
+        (λ text. GivesBefore (N.means names.now) protocols may board e text
         (L.judged listener.old) (L.judged listener.new) (L.noted listener.old)
         (L.noted listener.new))) }
 {
@@ -118,18 +118,18 @@ fn line_error(error: InputError, number: u32) -> CheckError
 }
 
 /// A judge of a platform of this board, before the first entry. `Memory` is the only error.
-fn judge_of(alloc: Global, text: &[u8], plan: &Plan, refuses: Refusals) -> Result<Judge, CoreError>
+fn judge_of(alloc: Global, text: &[u8], plan: &Plan, unseen: Unseen) -> Result<Judge, CoreError>
     requires { IsPlanText text.now plan.now }
     ensures knows { IfOk result (λ judge. Knows judge []) }
     ensures board { IfOk result (λ judge. judge.board ≡ plan.now) }
-    ensures refuses { IfOk result (λ judge. judge.refuses ≡ refuses) }
+    ensures unseen { IfOk result (λ judge. judge.unseen ≡ unseen) }
     ensures places { IfOk result (λ judge.
         length judge.guesses + length judge.spare ≡ 1 + PLACES) }
     ensures errors { IfErr result (λ e. e ≡ CoreError.Memory) }
 {
     let first = again(alloc, text, plan)?;
     let place = again(alloc, text, plan)?;
-    let mut judge = Judge::new(alloc, first, place, refuses)?;
+    let mut judge = Judge::new(alloc, first, place, unseen)?;
     'places: for _place in 0..PLACES {
         judge.add_place(again(alloc, text, plan)?)?;
     }

@@ -70,18 +70,18 @@ pub(crate) fn judge_one(judge: &mut Judge, entry: &Entry) -> Result<Option<Verdi
         → Knows judge.new (judged_as entry.now verdict ∷ entries))) }
     ensures legal { (entries : List Shown) → Knows judge.old entries
         → IfOk result (λ o. IfSome o (λ verdict. Fits (finding_of entry.now verdict)
-        → HasLegalHistory judge.old.refuses judge.old.board
+        → HasLegalHistory judge.old.unseen judge.old.board
         (judged_as entry.now verdict ∷ entries))) }
     ensures differs { (entries : List Shown) → Knows judge.old entries
         → IfOk result (λ o. IfSome o (λ verdict. ¬ (Fits (finding_of entry.now verdict))
-        → ¬ (HasLegalHistory judge.old.refuses judge.old.board (entry.now ∷ entries)))) }
+        → ¬ (HasLegalHistory judge.old.unseen judge.old.board (entry.now ∷ entries)))) }
     ensures many { (entries : List Shown) → Knows judge.old entries → result ≡ Ok None
         → AreTooMany judge.old entries }
     ensures places { IfOk result (λ o. IfSome o (λ verdict.
         length judge.new.guesses + length judge.new.spare
         ≡ length judge.old.guesses + length judge.old.spare)) }
     ensures board { judge.new.board ≡ judge.old.board }
-    ensures refuses { judge.new.refuses ≡ judge.old.refuses }
+    ensures unseen { judge.new.unseen ≡ judge.old.unseen }
     ensures errors { IfErr result (λ e. e ≡ Memory) }
 {
     let Some(verdict) = judge.judge(entry)? else {

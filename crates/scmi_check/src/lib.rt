@@ -64,5 +64,5 @@ pub use placed::Placed;
 pub use record::{Record, read_record};
 pub use report::Report;
 pub use run::{PROTOCOLS, run_check};
-pub use scmi_judge::Refusals;
+pub use scmi_judge::{NOTHING_UNSEEN, Refusals, Unseen};
 pub use style::Style;

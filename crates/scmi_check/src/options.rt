@@ -1,11 +1,11 @@
 //! What is judged of a record.
-use scmi_judge::Refusals;
+use scmi_judge::Unseen;
 
 /// What is judged of a record.
 #[derive(Clone, Copy, Debug)]
 pub struct CheckOptions<'a> {
     /// The protocols whose messages are judged.
     pub protocols: &'a [u8],
-    /// Which changes of pending sets the hardware may have refused.
-    pub refusals: Refusals,
+    /// What may have happened that no entry shows.
+    pub unseen: Unseen,
 }

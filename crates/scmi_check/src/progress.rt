@@ -2,7 +2,7 @@
 ghost use Rattle.std.specs.Prelude.{◌≡◌, ◌+◌, ◌++◌, ◌∷◌, ◌||◌, [], Bool, false, List, None, length, OnOk, IfErr};
 ghost use Rattle.scmi_plan.specs.Board.{Board};
 ghost use Rattle.scmi_judge.specs.Judging.{Knows};
-ghost use Rattle.scmi_judge.specs.declared.unseen.Refusals.{Refusals};
+ghost use Rattle.scmi_judge.specs.declared.unseen.Unseen.{Unseen};
 ghost use Rattle.scmi_check.specs.CheckError.{IsRefused};
 ghost use Rattle.scmi_check.specs.Progress.{AreBeingJudged, FindsMore, at_entry};
 ghost use Rattle.scmi_check.specs.declared.check.TheConstants.{PLACES};
@@ -31,10 +31,10 @@ pub(crate) struct Progress {
 impl Progress {
     /// No entry was judged.
     pub fn new(judge: Judge) -> Progress
-        ensures { (refuses : Refusals) (board : Board) → Knows judge []
-            → judge.board ≡ board → judge.refuses ≡ refuses
+        ensures { (may : Unseen) (board : Board) → Knows judge []
+            → judge.board ≡ board → judge.unseen ≡ may
             → length judge.guesses + length judge.spare ≡ 1 + PLACES
-            → AreBeingJudged refuses board [] [] result }
+            → AreBeingJudged may board [] [] result }
     {
         Progress {
             judge,
@@ -50,9 +50,9 @@ impl Progress {
         entries: &[Placed],
         listener: &mut L,
     ) -> Result<(), CheckError>
-        ensures judged { (refuses : Refusals) (board : Board) (before : List Entries)
-            (judged : List Verdicts) → AreBeingJudged refuses board before judged self.old
-            → OnOk result (FindsMore refuses board (before ++ entries.now) judged self.new
+        ensures judged { (may : Unseen) (board : Board) (before : List Entries)
+            (judged : List Verdicts) → AreBeingJudged may board before judged self.old
+            → OnOk result (FindsMore may board (before ++ entries.now) judged self.new
             (L.judged listener.old) (L.judged listener.new)) }
         ensures noted { OnOk result (L.noted listener.new ≡ L.noted listener.old) }
         ensures errors { IfErr result IsRefused }
@@ -66,9 +66,9 @@ impl Progress {
     /// Judges an entry, and gives it to the listener with the verdict. It is passed over once one
     /// before it was not judged.
     fn judge<L: Listener>(&mut self, one: &Placed, listener: &mut L) -> Result<(), CheckError>
-        ensures judged { (refuses : Refusals) (board : Board) (before : List Entries)
-            (judged : List Verdicts) → AreBeingJudged refuses board before judged self.old
-            → OnOk result (FindsMore refuses board (before ++ one.now ∷ []) judged self.new
+        ensures judged { (may : Unseen) (board : Board) (before : List Entries)
+            (judged : List Verdicts) → AreBeingJudged may board before judged self.old
+            → OnOk result (FindsMore may board (before ++ one.now ∷ []) judged self.new
             (L.judged listener.old) (L.judged listener.new)) }
         ensures noted { OnOk result (L.noted listener.new ≡ L.noted listener.old) }
         ensures errors { IfErr result IsRefused }
@@ -84,10 +84,10 @@ impl Progress {
     fn judge_next<L: Listener>(&mut self, one: &Placed, listener: &mut L) -> Result<(), CheckError>
         requires some { self.old.is_empty ≡ false }
         requires sure { self.old.unsure ≡ None }
-        ensures judged { (refuses : Refusals) (board : Board) (before : List Entries)
+        ensures judged { (may : Unseen) (board : Board) (before : List Entries)
             (judged : List Verdicts) (empty : Bool)
-            → AreBeingJudged refuses board before judged (at_entry self.old empty)
-            → OnOk result (FindsMore refuses board (before ++ one.now ∷ []) judged self.new
+            → AreBeingJudged may board before judged (at_entry self.old empty)
+            → OnOk result (FindsMore may board (before ++ one.now ∷ []) judged self.new
             (L.judged listener.old) (L.judged listener.new)) }
         ensures noted { OnOk result (L.noted listener.new ≡ L.noted listener.old) }
         ensures errors { IfErr result IsRefused }

@@ -38,7 +38,7 @@ pub fn run_check<B: Read, R: Read, N: Names, W: Write>(
         options.entry (B.remaining board.old) (R.remaining record.old) result
         (W.contents writer.old) (W.contents writer.new) }
 {
-    let mut report = Report::new(writer, style, options.refusals);
+    let mut report = Report::new(writer, style, options.unseen.refusals);
     let checked = match check_record(alloc, board, record, options, names, &mut report) {
         Ok(checked) => checked,
         Err(fault) => return write_fault(writer, &fault, fault.status()),

@@ -3,7 +3,7 @@ ghost use Rattle.std.specs.Prelude.{◌≡◌, ◌+◌, ◌++◌, [], List, leng
 ghost use Rattle.scmi_board.specs.Lines.{line_of};
 ghost use Rattle.scmi_plan.specs.Board.{Board};
 ghost use Rattle.scmi_judge.specs.Judging.{Knows};
-ghost use Rattle.scmi_judge.specs.declared.unseen.Refusals.{Refusals};
+ghost use Rattle.scmi_judge.specs.declared.unseen.Unseen.{Unseen};
 ghost use Rattle.scmi_check.specs.Check.{IsAtLine, IsEndWithout, IsFoundOf};
 ghost use Rattle.scmi_check.specs.CheckError.{IsRefused};
 ghost use Rattle.scmi_check.specs.Listener.{Grows};
@@ -41,11 +41,11 @@ pub(crate) struct Check<'a> {
 impl<'a> Check<'a> {
     /// No line was read, and these protocols are judged.
     pub fn new(alloc: Global, protocols: &'a [u8], agents: u32, judge: Judge) -> Check<'a>
-        ensures { (refuses : Refusals) (board : Board) → Knows judge []
-            → judge.board ≡ board → judge.refuses ≡ refuses
+        ensures { (may : Unseen) (board : Board) → Knows judge []
+            → judge.board ≡ board → judge.unseen ≡ may
             → length judge.guesses + length judge.spare ≡ 1 + PLACES
             → agents ≡ length board.agents
-            → IsUnderWay refuses board (nothing_shown protocols.now) [] [] result }
+            → IsUnderWay may board (nothing_shown protocols.now) [] [] result }
     {
         let so_far = SoFar::new(alloc, protocols);
         let progress = Progress::new(judge);
@@ -64,15 +64,15 @@ impl<'a> Check<'a> {
         line: TextLine<'_>,
         listener: &mut L,
     ) -> Result<(), CheckError>
-        ensures line { (refuses : Refusals) (board : Board) (all : Shows)
+        ensures line { (may : Unseen) (board : Board) (all : Shows)
             (judged : List Verdicts) (notes : List Notes)
-            → IsUnderWay refuses board all judged notes self.old
-            → OnOk result (AddsLines (N.means names.now) refuses board all judged notes
+            → IsUnderWay may board all judged notes self.old
+            → OnOk result (AddsLines (N.means names.now) may board all judged notes
             (if_counts (line_of line.entry)) self.new (L.judged listener.old)
             (L.judged listener.new) (L.noted listener.old) (L.noted listener.new)) }
-        ensures errors { (refuses : Refusals) (board : Board) (all : Shows)
+        ensures errors { (may : Unseen) (board : Board) (all : Shows)
             (judged : List Verdicts) (notes : List Notes)
-            → IsUnderWay refuses board all judged notes self.old
+            → IsUnderWay may board all judged notes self.old
             → IfErr result (IsStopBy (N.means names.now) board all (line_of line.entry)) }
         ensures before { IfErr result (λ e. IsAtLine e → listener.new ≡ listener.old) }
     {
@@ -96,15 +96,15 @@ impl<'a> Check<'a> {
         line: TextLine<'_>,
         listener: &mut L,
     ) -> Result<(), CheckError>
-        ensures line { (refuses : Refusals) (board : Board) (all : Shows)
+        ensures line { (may : Unseen) (board : Board) (all : Shows)
             (judged : List Verdicts) (notes : List Notes)
-            → IsUnderWay refuses board all judged notes self.old
-            → OnOk result (AddsLine refuses board all judged notes (line_of line.entry)
+            → IsUnderWay may board all judged notes self.old
+            → OnOk result (AddsLine may board all judged notes (line_of line.entry)
             self.new (L.judged listener.old) (L.judged listener.new) (L.noted listener.old)
             (L.noted listener.new)) }
-        ensures errors { (refuses : Refusals) (board : Board) (all : Shows)
+        ensures errors { (may : Unseen) (board : Board) (all : Shows)
             (judged : List Verdicts) (notes : List Notes)
-            → IsUnderWay refuses board all judged notes self.old
+            → IsUnderWay may board all judged notes self.old
             → IfErr result (IsStop (with_line (length board.agents) all (line_of line.entry))
             line.entry.number) }
         ensures before { IfErr result (λ e. IsAtLine e → listener.new ≡ listener.old) }
@@ -118,11 +118,11 @@ impl<'a> Check<'a> {
 
     /// Judges the entries of the last line, and gives the listener what is found of it.
     fn tell<L: Listener>(&mut self, listener: &mut L) -> Result<(), CheckError>
-        ensures told { (refuses : Refusals) (board : Board) (placed : List Entries)
+        ensures told { (may : Unseen) (board : Board) (placed : List Entries)
             (judged : List Verdicts) (notes : List Notes)
             → self.old.agents ≡ length board.agents
-            → AreBeingJudged refuses board placed judged self.old.progress
-            → OnOk result (IsTold refuses board (onto placed notes (shows_of self.old.so_far))
+            → AreBeingJudged may board placed judged self.old.progress
+            → OnOk result (IsTold may board (onto placed notes (shows_of self.old.so_far))
             judged notes self.new (L.judged listener.old) (L.judged listener.new)
             (L.noted listener.old) (L.noted listener.new)) }
         ensures errors { IfErr result IsRefused }
@@ -135,16 +135,16 @@ impl<'a> Check<'a> {
 
     /// What is found once no line is left. `Empty` if there was no entry.
     pub fn finish<L: Listener>(self, listener: &mut L) -> Result<Checked, CheckError>
-        ensures found { (refuses : Refusals) (board : Board) (all : Shows)
+        ensures found { (may : Unseen) (board : Board) (all : Shows)
             (judged : List Verdicts) (notes : List Notes)
-            → IsUnderWay refuses board all judged notes self.entry
+            → IsUnderWay may board all judged notes self.entry
             → IfOk result (λ c. (remarks : List Notes)
-            × IsFoundOf refuses board (finished all) judged (notes ++ remarks) c
+            × IsFoundOf may board (finished all) judged (notes ++ remarks) c
             × Grows (L.noted listener.old) (L.noted listener.new) remarks) }
         ensures judged { OnOk result (L.judged listener.new ≡ L.judged listener.old) }
-        ensures errors { (refuses : Refusals) (board : Board) (all : Shows)
+        ensures errors { (may : Unseen) (board : Board) (all : Shows)
             (judged : List Verdicts) (notes : List Notes)
-            → IsUnderWay refuses board all judged notes self.entry
+            → IsUnderWay may board all judged notes self.entry
             → IfErr result (IsEndWithout (finished all)) }
     {
         let Check {

@@ -18,7 +18,7 @@ pub of-one : (board : Board) (xs : List Guess) (i : ℕ) (g : Guess) → g ≡ g
 of-one board xs i g is less of = ap (λ (x : Guess). x.platform.board) is ∙ All-get_or (λ (x : Guess). x.platform.board ≡ board) xs i g less of
 
 pub keep-again : (a b c : Guesses) → KeepBoard a b → KeepBoard b c → KeepBoard a c
-keep-again a b c first second = record { boards = λ board of. second.boards board (first.boards board of); refuses = second.refuses ∙ first.refuses }
+keep-again a b c first second = record { boards = λ board of. second.boards board (first.boards board of); unseen = second.unseen ∙ first.unseen }
 
 -- of whatever board all are, a guess of their board is
 pub of-their : (old : Guesses) (g : Guess) → (board : Board) × AreOfBoard board old × (g.platform.board ≡ board) → (board : Board) → AreOfBoard board old → g.platform.board ≡ board
@@ -38,5 +38,5 @@ keep-made old new g copy made one same is keeps =
             spare = of.spare;
             made = is ∙ ap (λ (x : Guess). x.platform.board) same ∙ of-their old g one board of;
           });
-      refuses = keeps.refuses;
+      unseen = keeps.unseen;
     }

@@ -1,34 +1,22 @@
 -- Guesses of which no two are the same.
-use Rattle.std.proofs.Common.{◌≡◌, ◌≢◌, ◌↔◌, ◌⊎◌, inl, inr, Bool, true, false, ℕ, ◌+◌, ◌-◌, ◌<◌, ◌≤◌, List, [], ◌∷◌, ◌++◌, length, get_or, slice_get, drop, reverse, suc, Some, None, refl, sym, ap, ◌∙◌, subst, arith}
+use Rattle.std.proofs.Common.{◌≡◌, ◌≢◌, ◌↔◌, ◌⊎◌, inl, inr, Bool, true, false, ℕ, ◌+◌, ◌-◌, ◌<◌, ◌≤◌, List, [], ◌∷◌, ◌++◌, length, get_or, slice_get, reverse, suc, Some, None, refl, sym, ap, ◌∙◌, subst, arith}
 use Rattle.std.specs.List.{All}
 use Rattle.std.specs.Prelude.{Result, Ok, Err, IfErr, OnOk}
-use Rattle.std.specs.Option.{option_to_list}
 use Rattle.std.proofs.lemmas.Bool.{cases_lt}
-use Rattle.std.proofs.lemmas.List.{append_assoc, get_or_append_left, get_or-append_right, length-append, length-drop, reverse-append}
+use Rattle.std.proofs.lemmas.List.{append_assoc, get_or_append_left, get_or-append_right, length-append, reverse-append}
 use Rattle.std.proofs.lemmas.List.Elements.{All-append, All-head, All-nil, All-pop, All-push}
 use Rattle.std.proofs.lemmas.List.Quantifiers.{all_pairs_push}
 use Rattle.std.proofs.lemmas.Option.{get_or_from_slice_get, slice_get-get_or, slice_get_within}
 use Rattle.std.proofs.Math.Seq.{get_or-append_seam}
 use Rattle.scmi_plan.specs.Board.{Board}
 use Rattle.scmi_codec.specs.declared.message.Message.{Message}
-use Rattle.scmi_core.specs.declared.event.Event.TheVariants.{Advance, AdvanceFailed, Sent}
-use Rattle.scmi_core.specs.declared.pending_set.PendingSet.{PendingSet}
-use Rattle.scmi_core.specs.History.{deeds, delivered_messages, outbox}
-use Rattle.scmi_core.specs.Legal.{IsLegal}
-use Rattle.scmi_core.specs.Pending.{pending_sets}
-use Rattle.scmi_core.specs.Standing.{StandsAfter}
-use Rattle.scmi_core.proofs.Deeds.{pending_sets-advance, pending_sets-failed}
-use Rattle.scmi_core.proofs.Laws.{delivered_sent}
-use Rattle.scmi_core.proofs.Legal.{IsLegal-last, deeds-push}
-use Rattle.scmi_judge.specs.Behind.{taken_by}
-use Rattle.scmi_judge.specs.Guess.{GoesOn, IsReal, posted_to}
+use Rattle.scmi_judge.specs.Guess.{GoesOn, IsReal}
 use Rattle.scmi_judge.specs.Guesses.{AreDifferent, AreFound, AreMany, FindsMany, IsIn, StayFound}
 use Rattle.scmi_judge.specs.Unseen.{event_of}
 use Rattle.scmi_judge.specs.declared.entry.Entry.{Entry}
 use Rattle.scmi_judge.specs.declared.guess.Guess.{Guess}
-use Rattle.scmi_judge.specs.declared.unseen.Refusals.{Refusals}
+use Rattle.scmi_judge.specs.declared.unseen.Unseen.{Unseen}
 use Rattle.scmi_judge.specs.declared.unseen.Step.{Step}
-use Rattle.scmi_judge.specs.declared.unseen.Step.TheVariants.{Complete, Refuse, Post}
 use Rattle.scmi_judge.proofs.Among.{get-either, get-one, in-front, in-last, moved-real}
 
 at-place : (xs : List Guess) (k : ℕ) (d : Guess) → k < length xs → IsIn (get_or xs k d) xs
@@ -40,12 +28,12 @@ moved-behind left rest others g are =
     append_assoc left (g ∷ []) (reverse rest) ∙ ap (λ xs. left ++ xs) (sym (reverse-append rest (g ∷ []))) ∙ ap (λ xs. left ++ reverse xs) (sym are)
 
 -- guesses are as real in the other order
-pub real-reversed : (refuses : Refusals) (board : Board) (entries : List Entry) (guesses : List Guess) → All (IsReal refuses board entries) guesses → All (IsReal refuses board entries) (reverse guesses)
-real-reversed refuses board entries [] real = real
-real-reversed refuses board entries (g ∷ gs) real =
-    subst (All (IsReal refuses board entries)) (sym (reverse-append (g ∷ []) gs))
-    (All-push (IsReal refuses board entries) (reverse gs) g (real-reversed refuses board entries gs (λ k d less. real (suc k) d (omega (arith, less))))
-    (All-head (IsReal refuses board entries) g gs real))
+pub real-reversed : (may : Unseen) (board : Board) (entries : List Entry) (guesses : List Guess) → All (IsReal may board entries) guesses → All (IsReal may board entries) (reverse guesses)
+real-reversed may board entries [] real = real
+real-reversed may board entries (g ∷ gs) real =
+    subst (All (IsReal may board entries)) (sym (reverse-append (g ∷ []) gs))
+    (All-push (IsReal may board entries) (reverse gs) g (real-reversed may board entries gs (λ k d less. real (suc k) d (omega (arith, less))))
+    (All-head (IsReal may board entries) g gs real))
 
 different-none : AreDifferent []
 different-none i j d less within = absurd (omega (arith, within))
@@ -110,24 +98,24 @@ pub absent : (xs seen : List Guess) (g : Guess) (has : Bool) → seen ≡ xs →
 absent xs seen g has are finds hasnt is = absurd (let found = finds.1 (subst (IsIn g) (sym are) is) in cc)
 
 -- guesses that are found: at the start all are left; the last of those that are left is tried; another is left; and one more than there are
-module _ (refuses : Refusals) (board : Board) (entries : List Entry) where
-  pub found-start : (left : List Guess) → All (IsReal refuses board entries) left → AreDifferent left → AreFound refuses board entries [] left
+module _ (may : Unseen) (board : Board) (entries : List Entry) where
+  pub found-start : (left : List Guess) → All (IsReal may board entries) left → AreDifferent left → AreFound may board entries [] left
   found-start left real differ =
       record {
-        tried_real = All-nil (IsReal refuses board entries);
+        tried_real = All-nil (IsReal may board entries);
         left_real = real;
         tried_differ = different-none;
         left_differ = differ;
         none_twice = λ g is there. absurd (let no : None ≡ Some g = is.1 in cc);
       }
 
-  pub found-moved : (tried untried rest : List Guess) (g : Guess) → untried ≡ rest ++ g ∷ [] → AreFound refuses board entries tried untried
-      → AreFound refuses board entries (tried ++ g ∷ []) rest
+  pub found-moved : (tried untried rest : List Guess) (g : Guess) → untried ≡ rest ++ g ∷ [] → AreFound may board entries tried untried
+      → AreFound may board entries (tried ++ g ∷ []) rest
   found-moved tried untried rest g are found =
-      let real = All-pop (IsReal refuses board entries) untried rest (Some g) are found.left_real in
+      let real = All-pop (IsReal may board entries) untried rest (Some g) are found.left_real in
       let differ = different-popped untried rest g are found.left_differ in
       record {
-        tried_real = All-push (IsReal refuses board entries) tried g found.tried_real real.1;
+        tried_real = All-push (IsReal may board entries) tried g found.tried_real real.1;
         left_real = real.0;
         tried_differ = different-push tried g found.tried_differ (λ is. found.none_twice g is (in-last g rest untried are));
         left_differ = differ.0;
@@ -136,27 +124,31 @@ module _ (refuses : Refusals) (board : Board) (entries : List Entry) where
             (λ same. differ.1 (subst (λ y. IsIn y rest) same there)) is;
       }
 
-  found-grown : (tried left new : List Guess) (made : Guess) → AreFound refuses board entries tried left → IsReal refuses board entries made → ¬ (IsIn made tried) → ¬ (IsIn made left)
-      → new ≡ left ++ made ∷ [] → AreFound refuses board entries tried new
+  found-grown : (tried left new : List Guess) (made : Guess) → AreFound may board entries tried left → IsReal may board entries made → ¬ (IsIn made tried) → ¬ (IsIn made left)
+      → new ≡ left ++ made ∷ [] → AreFound may board entries tried new
   found-grown tried left new made found real untried unleft are =
-      subst (AreFound refuses board entries tried) (sym are)
+      subst (AreFound may board entries tried) (sym are)
       record {
         tried_real = found.tried_real;
-        left_real = All-push (IsReal refuses board entries) left made found.left_real real;
+        left_real = All-push (IsReal may board entries) left made found.left_real real;
         tried_differ = found.tried_differ;
         left_differ = different-push left made found.left_differ unleft;
         none_twice = λ x is. not-in-both left (made ∷ []) x (found.none_twice x is) (λ same. untried (subst (λ y. IsIn y tried) (sym (get-one made same.0 x same.1)) is));
       }
 
-  found-many : (tried left : List Guess) (made : Guess) (count : ℕ) → AreFound refuses board entries tried left → IsReal refuses board entries made → ¬ (IsIn made tried) → ¬ (IsIn made left)
-      → count ≡ length tried + length left + 1 → AreMany refuses board entries count
+  found-many : (tried left : List Guess) (made : Guess) (count : ℕ) → AreFound may board entries tried left → IsReal may board entries made → ¬ (IsIn made tried) → ¬ (IsIn made left)
+      → count ≡ length tried + length left + 1 → AreMany may board entries count
   found-many tried left made count found real untried unleft is =
       record {
         guesses = (tried ++ left) ++ made ∷ [];
-        real = All-push (IsReal refuses board entries) (tried ++ left) made (All-append (IsReal refuses board entries) tried left found.tried_real found.left_real) real;
+        real = All-push (IsReal may board entries) (tried ++ left) made (All-append (IsReal may board entries) tried left found.tried_real found.left_real) real;
         different = different-push (tried ++ left) made (different-append tried left found.tried_differ found.left_differ found.none_twice) (not-in-both tried left made untried unleft);
         as_many = length-append (tried ++ left) (made ∷ []) ∙ ap (λ n. n + 1) (length-append tried left) ∙ sym is;
       }
+
+-- an answer is not both
+pub not-both : (b : Bool) → b ≡ false → b ≡ true → ⊥
+not-both b is-not is = absurd (let both : false ≡ true = sym is-not ∙ is in cc)
 
 -- one that is left, and was not before, leaves them different
 pub different-left : {X E : Type 0} (r : Result X E) (xs new : List Guess) (g : Guess) → OnOk r (new ≡ xs ++ g ∷ []) → ¬ (IsIn g xs) → OnOk r (AreDifferent xs → AreDifferent new)
@@ -168,16 +160,16 @@ pub if-err : {X E : Type 0} (r : Result X E) (e : E) (P : E → Type 0) → r �
 if-err r e P is holds = subst (λ x. IfErr x P) (sym is) holds
 
 -- guesses that stay so at one step more
-pub stays-found : (refuses r : Refusals) (g : Guess) (tried t left mid new : List Guess) → r ≡ refuses → t ≡ tried → StayFound refuses g tried left mid → StayFound r g t mid new
-    → StayFound refuses g tried left new
-stays-found refuses r g tried t left mid new is are first second board entries found =
+pub stays-found : (may r : Unseen) (g : Guess) (tried t left mid new : List Guess) → r ≡ may → t ≡ tried → StayFound may g tried left mid → StayFound r g t mid new
+    → StayFound may g tried left new
+stays-found may r g tried t left mid new is are first second board entries found =
     subst (λ x. StayFound x g tried mid new) is (subst (λ xs. StayFound r g xs mid new) are second) board entries (first board entries found)
 
 -- and at which as many are found
-pub finds-later : (refuses r : Refusals) (g : Guess) (tried t left mid : List Guess) (count n : ℕ) → r ≡ refuses → t ≡ tried → n ≡ count → StayFound refuses g tried left mid
-    → FindsMany r (t ++ g ∷ []) mid n → FindsMany refuses (tried ++ g ∷ []) left count
-finds-later refuses r g tried t left mid count n is are many first second board entries found =
-    subst (λ x. AreMany refuses board entries x) many
+pub finds-later : (may r : Unseen) (g : Guess) (tried t left mid : List Guess) (count n : ℕ) → r ≡ may → t ≡ tried → n ≡ count → StayFound may g tried left mid
+    → FindsMany r (t ++ g ∷ []) mid n → FindsMany may (tried ++ g ∷ []) left count
+finds-later may r g tried t left mid count n is are many first second board entries found =
+    subst (λ x. AreMany may board entries x) many
     (subst (λ x. FindsMany x (tried ++ g ∷ []) mid n) is (subst (λ xs. FindsMany r (xs ++ g ∷ []) mid n) are second) board entries (first board entries found))
 
 -- the first of the messages
@@ -185,55 +177,23 @@ pub first-of : (ms : List Message) → 0 < length ms → (m : Message) × (slice
 first-of [] some = absurd (omega (arith, some))
 first-of (m ∷ ms) some = (m, refl)
 
--- a platform is as only one of two histories leaves it, if in one of them a set less is pending
-one-less : (ps : List PendingSet) → 0 < length ps → ps ≢ drop 1 ps
-one-less ps some same = absurd (let lengths : length ps ≡ length (drop 1 ps) = ap length same in omega (arith, some, lengths, length-drop 1 ps))
-
-one-more : (ms : List Message) (m : Message) → ms ++ m ∷ [] ≢ ms
-one-more ms m same = absurd (let lengths : length (ms ++ m ∷ []) ≡ length ms = ap length same in omega (arith, lengths, length-append ms (m ∷ [])))
-
--- what a guess moves on to is another
-moved-other : (refuses : Refusals) (g made : Guess) (step : Step) → GoesOn refuses g (event_of step) made → (board : Board) (entries : List Entry) → IsReal refuses board entries g → made ≢ g
-moved-other refuses g made Complete goes board entries real same =
-    let h = real.0 in
-    let b = g.platform.board in
-    let before = real.1.stands in
-    let after = subst (λ (x : Guess). StandsAfter x.platform (h ++ Advance ∷ [])) same (goes board entries h real.1).stands in
-    one-less (pending_sets b (deeds b h)) (IsLegal-last b h Advance after.legal)
-    (sym before.pending ∙ after.pending ∙ ap (pending_sets b) (deeds-push b h Advance) ∙ pending_sets-advance b (deeds b h))
-moved-other refuses g made Refuse goes board entries real same =
-    let h = real.0 in
-    let b = g.platform.board in
-    let before = real.1.stands in
-    let after = subst (λ (x : Guess). StandsAfter x.platform (h ++ AdvanceFailed ∷ [])) same (goes board entries h real.1).stands in
-    one-less (pending_sets b (deeds b h)) (IsLegal-last b h AdvanceFailed after.legal)
-    (sym before.pending ∙ after.pending ∙ ap (pending_sets b) (deeds-push b h AdvanceFailed) ∙ pending_sets-failed b (deeds b h))
-moved-other refuses g made (Post a) goes board entries real same =
-    let h = real.0 in
-    let after = goes board entries h real.1 in
-    let legal = subst (λ b. IsLegal b (h ++ Sent a ∷ [])) after.of_board after.stands.legal in
-    let may = IsLegal-last board h (Sent a) legal in
-    let first = first-of (outbox board a h) may.2 in
-    one-more (delivered_messages board a h) first.0
-    (sym (delivered_sent board a h first.0 first.1) ∙ after.channels a (may.0, may.1)
-    ∙ ap (λ (x : Guess). taken_by a entries ++ option_to_list (posted_to x a)) same ∙ sym (real.1.channels a (may.0, may.1)))
-
 -- a guess that another moved on to by a step, and that was not there before
-module _ (refuses : Refusals) (g made : Guess) (step : Step) (goes : GoesOn refuses g (event_of step) made) (tried left : List Guess) (untried : ¬ (IsIn made tried)) (unleft : ¬ (IsIn made left))
-    (board : Board) (entries : List Entry) (found : AreFound refuses board entries (tried ++ g ∷ []) left) where
-  real : IsReal refuses board entries g
-  real = (All-pop (IsReal refuses board entries) (tried ++ g ∷ []) tried (Some g) refl found.tried_real).1
+module _ (may : Unseen) (g made : Guess) (step : Step)
+    (goes : GoesOn may g (event_of step) made) (other : made ≢ g) (tried left : List Guess) (untried : ¬ (IsIn made tried)) (unleft : ¬ (IsIn made left))
+    (board : Board) (entries : List Entry) (found : AreFound may board entries (tried ++ g ∷ []) left) where
+  real : IsReal may board entries g
+  real = (All-pop (IsReal may board entries) (tried ++ g ∷ []) tried (Some g) refl found.tried_real).1
 
-  new-real : IsReal refuses board entries made
-  new-real = moved-real refuses g made (event_of step) goes board entries real
+  new-real : IsReal may board entries made
+  new-real = moved-real may g made (event_of step) goes board entries real
 
   nowhere : ¬ (IsIn made (tried ++ g ∷ []))
-  nowhere = not-in-more tried g made untried (moved-other refuses g made step goes board entries real)
+  nowhere = not-in-more tried g made untried other
 
-  pub step-found : (new : List Guess) → new ≡ left ++ made ∷ [] → AreFound refuses board entries (tried ++ g ∷ []) new
-  step-found new are = found-grown refuses board entries (tried ++ g ∷ []) left new made found new-real nowhere unleft are
+  pub step-found : (new : List Guess) → new ≡ left ++ made ∷ [] → AreFound may board entries (tried ++ g ∷ []) new
+  step-found new are = found-grown may board entries (tried ++ g ∷ []) left new made found new-real nowhere unleft are
 
-  pub step-many : (count : ℕ) → count ≡ length tried + length left + 2 → AreMany refuses board entries count
+  pub step-many : (count : ℕ) → count ≡ length tried + length left + 2 → AreMany may board entries count
   step-many count is =
-      found-many refuses board entries (tried ++ g ∷ []) left made count found new-real nowhere unleft
+      found-many may board entries (tried ++ g ∷ []) left made count found new-real nowhere unleft
       (let more = length-append tried (g ∷ []) in omega (arith, is, more))

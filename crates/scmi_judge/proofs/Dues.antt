@@ -8,7 +8,7 @@ use Rattle.scmi_judge.specs.Guess.{Gives, IsReal}
 use Rattle.scmi_judge.specs.declared.entry.Entry.{Entry}
 use Rattle.scmi_judge.specs.declared.entry.Entry.TheVariants.{Answered, Delivered}
 use Rattle.scmi_judge.specs.declared.guess.Guess.{Guess}
-use Rattle.scmi_judge.specs.declared.unseen.Refusals.{Refusals}
+use Rattle.scmi_judge.specs.declared.unseen.Unseen.{Unseen}
 use Rattle.scmi_judge.specs.declared.verdict.Verdict.{Verdict}
 use Rattle.scmi_judge.specs.declared.verdict.Verdict.TheVariants as verdict
 
@@ -23,16 +23,16 @@ due-there (verdict.Message due) (Answered a frame seen) Does is = tt
 due-there (verdict.Message due) (Delivered a seen) Does is = is
 
 -- what a guess gives that may be behind some entries has a history with these
-given-legal : (refuses : Refusals) (board : Board) (entries : List Entry) (entry : Entry) (g new : Guess) → Gives refuses g entry new → IsReal refuses board entries g
-    → HasLegalHistory refuses board (entry ∷ entries)
-given-legal refuses board entries entry g new gives real =
+given-legal : (may : Unseen) (board : Board) (entries : List Entry) (entry : Entry) (g new : Guess) → Gives may g entry new → IsReal may board entries g
+    → HasLegalHistory may board (entry ∷ entries)
+given-legal may board entries entry g new gives real =
     let some = gives.some board entries real.0 real.1 in
     (real.0 ++ some.0, some.1.legal, Behind.shown real.1.behind entry some.0 some.1.fits)
 
 -- so it was due
-pub due-given : (refuses : Refusals) (board : Board) (entries : List Entry) (v : Verdict) (entry given : Entry) (g copy new : Guess) → given ≡ in_place entry v → copy ≡ g
-    → Gives refuses copy given new → IsReal refuses board entries g → IsDue v entry (λ due. HasLegalHistory refuses board (due ∷ entries))
-due-given refuses board entries v entry given g copy new is same gives real =
-    due-there v entry (λ due. HasLegalHistory refuses board (due ∷ entries))
-    (subst (λ e. HasLegalHistory refuses board (e ∷ entries)) is
-    (given-legal refuses board entries given g new (subst (λ x. Gives refuses x given new) same gives) real))
+pub due-given : (may : Unseen) (board : Board) (entries : List Entry) (v : Verdict) (entry given : Entry) (g copy new : Guess) → given ≡ in_place entry v → copy ≡ g
+    → Gives may copy given new → IsReal may board entries g → IsDue v entry (λ due. HasLegalHistory may board (due ∷ entries))
+due-given may board entries v entry given g copy new is same gives real =
+    due-there v entry (λ due. HasLegalHistory may board (due ∷ entries))
+    (subst (λ e. HasLegalHistory may board (e ∷ entries)) is
+    (given-legal may board entries given g new (subst (λ x. Gives may x given new) same gives) real))

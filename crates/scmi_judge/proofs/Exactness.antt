@@ -11,7 +11,7 @@ use Rattle.scmi_judge.specs.Exact.{AreClosed, AreExact, AreGiven, EndsShown, Hav
 use Rattle.scmi_judge.specs.Guess.{CanShow, Gives, GivesNot, IsAmong, IsGuess, IsReal}
 use Rattle.scmi_judge.specs.declared.entry.Entry.{Entry}
 use Rattle.scmi_judge.specs.declared.guess.Guess.{Guess}
-use Rattle.scmi_judge.specs.declared.unseen.Refusals.{Refusals}
+use Rattle.scmi_judge.specs.declared.unseen.Unseen.{Unseen}
 use Rattle.scmi_judge.specs.Guesses.{IsGiven, IsIn}
 use Rattle.scmi_judge.proofs.Among.{among-either, among-grown, among-last, among-none, behind-among}
 use Rattle.scmi_judge.proofs.Guessing.{guess-legal}
@@ -22,143 +22,143 @@ legal-front board h more legal =
     record { each = λ before after event is. legal.each before (after ++ more) event (ap (λ k. k ++ more) is ∙ append_assoc before (event ∷ after) more) }
 
 -- guesses that are tried with an entry, one after the other
-pub given-start : (refuses : Refusals) (guesses : List Guess) (entry : Entry) → AreGiven refuses guesses entry [] guesses
-given-start refuses guesses entry = record { each = λ board entries h events is can. inr is; real = λ board entries real. (All-nil (IsReal refuses board (entry ∷ entries)), real) }
+pub given-start : (may : Unseen) (guesses : List Guess) (entry : Entry) → AreGiven may guesses entry [] guesses
+given-start may guesses entry = record { each = λ board entries h events is can. inr is; real = λ board entries real. (All-nil (IsReal may board (entry ∷ entries)), real) }
 
-module _ (refuses : Refusals) (guesses left untried rest : List Guess) (entry : Entry) (g : Guess) (given : AreGiven refuses guesses entry left untried) (are : untried ≡ rest ++ g ∷ []) where
-  pub given-one : (new : Guess) → Gives refuses g entry new → AreGiven refuses guesses entry (left ++ new ∷ []) rest
+module _ (may : Unseen) (guesses left untried rest : List Guess) (entry : Entry) (g : Guess) (given : AreGiven may guesses entry left untried) (are : untried ≡ rest ++ g ∷ []) where
+  pub given-one : (new : Guess) → Gives may g entry new → AreGiven may guesses entry (left ++ new ∷ []) rest
   given-one new gives =
       record {
         each = λ board entries h events is can. by board entries h events can (given.each board entries h events is can);
         real = λ board entries real.
             let so_far = given.real board entries real in
-            let both = All-pop (IsReal refuses board entries) untried rest (Some g) are so_far.1 in
+            let both = All-pop (IsReal may board entries) untried rest (Some g) are so_far.1 in
             let some = gives.some board entries both.1.0 both.1.1 in (
-              All-push (IsReal refuses board (entry ∷ entries)) left new so_far.0 (both.1.0 ++ some.0, gives.each board entries both.1.0 some.0 both.1.1 some.1),
+              All-push (IsReal may board (entry ∷ entries)) left new so_far.0 (both.1.0 ++ some.0, gives.each board entries both.1.0 some.0 both.1.1 some.1),
               both.0,
             );
       } where
         by : (board : Board) (entries : List Entry) (h events : List Event) → CanShow board entries h entry events
-            → IsAmong refuses board (entry ∷ entries) (h ++ events) left ⊎ IsAmong refuses board entries h untried
-            → IsAmong refuses board (entry ∷ entries) (h ++ events) (left ++ new ∷ []) ⊎ IsAmong refuses board entries h rest
-        by board entries h events can (inl before) = inl (among-grown refuses board (entry ∷ entries) (h ++ events) left (new ∷ []) before)
-        by board entries h events can (inr is) = at (among-either refuses board entries h rest g (subst (IsAmong refuses board entries h) are is)) where
-          at : IsAmong refuses board entries h rest ⊎ IsGuess refuses board g entries h → IsAmong refuses board (entry ∷ entries) (h ++ events) (left ++ new ∷ []) ⊎ IsAmong refuses board entries h rest
+            → IsAmong may board (entry ∷ entries) (h ++ events) left ⊎ IsAmong may board entries h untried
+            → IsAmong may board (entry ∷ entries) (h ++ events) (left ++ new ∷ []) ⊎ IsAmong may board entries h rest
+        by board entries h events can (inl before) = inl (among-grown may board (entry ∷ entries) (h ++ events) left (new ∷ []) before)
+        by board entries h events can (inr is) = at (among-either may board entries h rest g (subst (IsAmong may board entries h) are is)) where
+          at : IsAmong may board entries h rest ⊎ IsGuess may board g entries h → IsAmong may board (entry ∷ entries) (h ++ events) (left ++ new ∷ []) ⊎ IsAmong may board entries h rest
           at (inl before) = inr before
-          at (inr last) = inl (among-last refuses board (entry ∷ entries) (h ++ events) left new (gives.each board entries h events last can))
+          at (inr last) = inl (among-last may board (entry ∷ entries) (h ++ events) left new (gives.each board entries h events last can))
 
-  pub given-not : GivesNot refuses g entry → AreGiven refuses guesses entry left rest
+  pub given-not : GivesNot may g entry → AreGiven may guesses entry left rest
   given-not not =
       record {
         each = λ board entries h events is can. by board entries h events can (given.each board entries h events is can);
         real = λ board entries real.
             let so_far = given.real board entries real in
-            (so_far.0, (All-pop (IsReal refuses board entries) untried rest (Some g) are so_far.1).0);
+            (so_far.0, (All-pop (IsReal may board entries) untried rest (Some g) are so_far.1).0);
       } where
         by : (board : Board) (entries : List Entry) (h events : List Event) → CanShow board entries h entry events
-            → IsAmong refuses board (entry ∷ entries) (h ++ events) left ⊎ IsAmong refuses board entries h untried
-            → IsAmong refuses board (entry ∷ entries) (h ++ events) left ⊎ IsAmong refuses board entries h rest
+            → IsAmong may board (entry ∷ entries) (h ++ events) left ⊎ IsAmong may board entries h untried
+            → IsAmong may board (entry ∷ entries) (h ++ events) left ⊎ IsAmong may board entries h rest
         by board entries h events can (inl before) = inl before
-        by board entries h events can (inr is) = at (among-either refuses board entries h rest g (subst (IsAmong refuses board entries h) are is)) where
-          at : IsAmong refuses board entries h rest ⊎ IsGuess refuses board g entries h → IsAmong refuses board (entry ∷ entries) (h ++ events) left ⊎ IsAmong refuses board entries h rest
+        by board entries h events can (inr is) = at (among-either may board entries h rest g (subst (IsAmong may board entries h) are is)) where
+          at : IsAmong may board entries h rest ⊎ IsGuess may board g entries h → IsAmong may board (entry ∷ entries) (h ++ events) left ⊎ IsAmong may board entries h rest
           at (inl before) = inr before
           at (inr last) = absurd (not board entries h events last can)
 
 -- one that is left already
-module _ (refuses : Refusals) (guesses left untried rest : List Guess) (entry : Entry) (g : Guess) (given : AreGiven refuses guesses entry left untried) (are : untried ≡ rest ++ g ∷ []) where
-  given-twice : (made : Guess) → Gives refuses g entry made → IsIn made left → AreGiven refuses guesses entry left rest
+module _ (may : Unseen) (guesses left untried rest : List Guess) (entry : Entry) (g : Guess) (given : AreGiven may guesses entry left untried) (are : untried ≡ rest ++ g ∷ []) where
+  given-twice : (made : Guess) → Gives may g entry made → IsIn made left → AreGiven may guesses entry left rest
   given-twice made gives is =
       record {
         each = λ board entries h events is can. by board entries h events can (given.each board entries h events is can);
         real = λ board entries real.
             let so_far = given.real board entries real in
-            (so_far.0, (All-pop (IsReal refuses board entries) untried rest (Some g) are so_far.1).0);
+            (so_far.0, (All-pop (IsReal may board entries) untried rest (Some g) are so_far.1).0);
       } where
         by : (board : Board) (entries : List Entry) (h events : List Event) → CanShow board entries h entry events
-            → IsAmong refuses board (entry ∷ entries) (h ++ events) left ⊎ IsAmong refuses board entries h untried
-            → IsAmong refuses board (entry ∷ entries) (h ++ events) left ⊎ IsAmong refuses board entries h rest
+            → IsAmong may board (entry ∷ entries) (h ++ events) left ⊎ IsAmong may board entries h untried
+            → IsAmong may board (entry ∷ entries) (h ++ events) left ⊎ IsAmong may board entries h rest
         by board entries h events can (inl before) = inl before
-        by board entries h events can (inr there) = at (among-either refuses board entries h rest g (subst (IsAmong refuses board entries h) are there)) where
-          at : IsAmong refuses board entries h rest ⊎ IsGuess refuses board g entries h → IsAmong refuses board (entry ∷ entries) (h ++ events) left ⊎ IsAmong refuses board entries h rest
+        by board entries h events can (inr there) = at (among-either may board entries h rest g (subst (IsAmong may board entries h) are there)) where
+          at : IsAmong may board entries h rest ⊎ IsGuess may board g entries h → IsAmong may board (entry ∷ entries) (h ++ events) left ⊎ IsAmong may board entries h rest
           at (inl before) = inr before
           at (inr last) = inl (is.0, made, is.1, gives.each board entries h events last can)
 
-  pub given-step : (new : List Guess) → IsGiven refuses g entry left new → AreGiven refuses guesses entry new rest
-  given-step new (inl not) = subst (λ l. AreGiven refuses guesses entry l rest) (sym not.1) (given-not refuses guesses left untried rest entry g given are not.0)
+  pub given-step : (new : List Guess) → IsGiven may g entry left new → AreGiven may guesses entry new rest
+  given-step new (inl not) = subst (λ l. AreGiven may guesses entry l rest) (sym not.1) (given-not may guesses left untried rest entry g given are not.0)
   given-step new (inr some) = by some.2 where
-    by : (new ≡ left ++ some.0 ∷ []) ⊎ ((new ≡ left) × IsIn some.0 left) → AreGiven refuses guesses entry new rest
-    by (inl is) = subst (λ l. AreGiven refuses guesses entry l rest) (sym is) (given-one refuses guesses left untried rest entry g given are some.0 some.1)
-    by (inr is) = subst (λ l. AreGiven refuses guesses entry l rest) (sym is.0) (given-twice some.0 some.1 is.1)
+    by : (new ≡ left ++ some.0 ∷ []) ⊎ ((new ≡ left) × IsIn some.0 left) → AreGiven may guesses entry new rest
+    by (inl is) = subst (λ l. AreGiven may guesses entry l rest) (sym is) (given-one may guesses left untried rest entry g given are some.0 some.1)
+    by (inr is) = subst (λ l. AreGiven may guesses entry l rest) (sym is.0) (given-twice some.0 some.1 is.1)
 
 -- a copy of a guess that gives an entry or does not
-pub given-again : (refuses : Refusals) (g copy made : Guess) (entry : Entry) (left : List Guess) → copy ≡ g → Gives refuses copy entry made → IsIn made left
-    → IsGiven refuses g entry left left
-given-again refuses g copy made entry left same gives is = inr (made, subst (λ x. Gives refuses x entry made) same gives, inr (refl, is))
+pub given-again : (may : Unseen) (g copy made : Guess) (entry : Entry) (left : List Guess) → copy ≡ g → Gives may copy entry made → IsIn made left
+    → IsGiven may g entry left left
+given-again may g copy made entry left same gives is = inr (made, subst (λ x. Gives may x entry made) same gives, inr (refl, is))
 
-pub given-nothing : (refuses : Refusals) (g copy : Guess) (entry : Entry) (left : List Guess) → copy ≡ g → GivesNot refuses copy entry → IsGiven refuses g entry left left
-given-nothing refuses g copy entry left same not = inl (subst (λ x. GivesNot refuses x entry) same not, refl)
+pub given-nothing : (may : Unseen) (g copy : Guess) (entry : Entry) (left : List Guess) → copy ≡ g → GivesNot may copy entry → IsGiven may g entry left left
+given-nothing may g copy entry left same not = inl (subst (λ x. GivesNot may x entry) same not, refl)
 
-pub given-done : (refuses : Refusals) (guesses left untried : List Guess) (entry : Entry) → AreGiven refuses guesses entry left untried → untried ≡ [] → HaveGiven refuses guesses entry left
-given-done refuses guesses left untried entry given none =
+pub given-done : (may : Unseen) (guesses left untried : List Guess) (entry : Entry) → AreGiven may guesses entry left untried → untried ≡ [] → HaveGiven may guesses entry left
+given-done may guesses left untried entry given none =
     record {
       each = λ board entries h events is can. by board entries h events (given.each board entries h events is can);
       real = λ board entries real. (given.real board entries real).0;
     } where
       by : (board : Board) (entries : List Entry) (h events : List Event)
-          → IsAmong refuses board (entry ∷ entries) (h ++ events) left ⊎ IsAmong refuses board entries h untried → IsAmong refuses board (entry ∷ entries) (h ++ events) left
+          → IsAmong may board (entry ∷ entries) (h ++ events) left ⊎ IsAmong may board entries h untried → IsAmong may board (entry ∷ entries) (h ++ events) left
       by board entries h events (inl is) = is
-      by board entries h events (inr is) = absurd (among-none refuses board entries h (subst (IsAmong refuses board entries h) none is))
+      by board entries h events (inr is) = absurd (among-none may board entries h (subst (IsAmong may board entries h) none is))
 
 -- at the start
-pub exact-start : (refuses : Refusals) (board : Board) (g : Guess) → IsGuess refuses board g [] [] → AreExact refuses board [] (g ∷ [])
-exact-start refuses board g guess =
+pub exact-start : (may : Unseen) (board : Board) (g : Guess) → IsGuess may board g [] [] → AreExact may board [] (g ∷ [])
+exact-start may board g guess =
     record {
-      real = All-cons (IsReal refuses board []) g [] ([], guess) (All-nil (IsReal refuses board []));
-      all = λ h legal none. (0, g, refl, subst (IsGuess refuses board g []) (sym none) guess);
+      real = All-cons (IsReal may board []) g [] ([], guess) (All-nil (IsReal may board []));
+      all = λ h legal none. (0, g, refl, subst (IsGuess may board g []) (sym none) guess);
     }
 
 -- with what they move on to
-pub exact-kept : (refuses : Refusals) (board : Board) (entries : List Entry) (guesses all : List Guess) → AreExact refuses board entries guesses → HaveKept refuses guesses all
-    → AreExact refuses board entries all
-exact-kept refuses board entries guesses all exact expanded =
+pub exact-kept : (may : Unseen) (board : Board) (entries : List Entry) (guesses all : List Guess) → AreExact may board entries guesses → HaveKept may guesses all
+    → AreExact may board entries all
+exact-kept may board entries guesses all exact expanded =
     record { real = expanded.real board entries exact.real; all = λ h legal ends. expanded.kept board entries h (exact.all h legal ends) }
 
 -- after one more entry
-pub exact-more : (refuses : Refusals) (board : Board) (entries : List Entry) (entry : Entry) (guesses all left : List Guess) → AreExact refuses board entries guesses
-    → HaveKept refuses guesses all → AreClosed refuses all → HaveGiven refuses all entry left → AreExact refuses board (entry ∷ entries) left
-exact-more refuses board entries entry guesses all left exact expanded closed given =
+pub exact-more : (may : Unseen) (board : Board) (entries : List Entry) (entry : Entry) (guesses all left : List Guess) → AreExact may board entries guesses
+    → HaveKept may guesses all → AreClosed may all → HaveGiven may all entry left → AreExact may board (entry ∷ entries) left
+exact-more may board entries entry guesses all left exact expanded closed given =
     record {
       real = given.real board entries (expanded.real board entries exact.real);
-      all = λ h legal ends. subst (λ k. IsAmong refuses board (entry ∷ entries) k left) (sym ends.2) (at ends.0 ends.1 (subst (IsLegal board) ends.2 legal) ends.3 ends.4);
+      all = λ h legal ends. subst (λ k. IsAmong may board (entry ∷ entries) k left) (sym ends.2) (at ends.0 ends.1 (subst (IsLegal board) ends.2 legal) ends.3 ends.4);
     } where
-      at : (k events : List Event) → IsLegal board (k ++ events) → Behind refuses board entries k → Fits board entries k entry events → IsAmong refuses board (entry ∷ entries) (k ++ events) left
+      at : (k events : List Event) → IsLegal board (k ++ events) → Behind may board entries k → Fits board entries k entry events → IsAmong may board (entry ∷ entries) (k ++ events) left
       at k events legal behind fits =
           given.each board entries k events
-          (behind-among refuses board all closed behind (legal-front board k events legal)
+          (behind-among may board all closed behind (legal-front board k events legal)
           (λ before fine ends. expanded.kept board entries before (exact.all before fine ends)))
           (record { fits = fits; legal = legal })
 
 -- the guesses that are left have a history
-pub some-right : (refuses : Refusals) (board : Board) (entries : List Entry) (left : List Guess) → AreExact refuses board entries left → left ≢ [] → HasLegalHistory refuses board entries
-some-right refuses board entries [] exact some = absurd (some refl)
-some-right refuses board entries (g ∷ gs) exact some =
-    let real = All-head (IsReal refuses board entries) g gs exact.real in
-    (real.0, guess-legal refuses board g entries real.0 real.1, real.1.behind)
+pub some-right : (may : Unseen) (board : Board) (entries : List Entry) (left : List Guess) → AreExact may board entries left → left ≢ [] → HasLegalHistory may board entries
+some-right may board entries [] exact some = absurd (some refl)
+some-right may board entries (g ∷ gs) exact some =
+    let real = All-head (IsReal may board entries) g gs exact.real in
+    (real.0, guess-legal may board g entries real.0 real.1, real.1.behind)
 
 -- a history that is behind entries is behind them without what is unseen after the last
-ends-of : (refuses : Refusals) (board : Board) {entries : List Entry} {h : List Event} → Behind refuses board entries h → IsLegal board h → (k : List Event) × IsLegal board k × EndsShown refuses board entries k
-ends-of refuses board Behind.nothing legal = ([], legal, refl)
-ends-of refuses board (Behind.unseen {entries} {h} behind event unseen) legal = ends-of refuses board behind (IsLegal-front board h event legal)
-ends-of refuses board (Behind.shown {entries} {h} behind entry events fits) legal = (h ++ events, legal, (h, events, refl, behind, fits))
+ends-of : (may : Unseen) (board : Board) {entries : List Entry} {h : List Event} → Behind may board entries h → IsLegal board h → (k : List Event) × IsLegal board k × EndsShown may board entries k
+ends-of may board Behind.nothing legal = ([], legal, refl)
+ends-of may board (Behind.unseen {entries} {h} behind event unseen) legal = ends-of may board behind (IsLegal-front board h event legal)
+ends-of may board (Behind.shown {entries} {h} behind entry events fits) legal = (h ++ events, legal, (h, events, refl, behind, fits))
 
 -- no guess is left, and no history
-pub none-wrong : (refuses : Refusals) (board : Board) (entries : List Entry) (left : List Guess) → AreExact refuses board entries left → left ≡ [] → ¬ (HasLegalHistory refuses board entries)
-none-wrong refuses board entries left exact none history =
-    let ends = ends-of refuses board history.2 history.1 in
-    among-none refuses board entries ends.0 (subst (IsAmong refuses board entries ends.0) none (exact.all ends.0 ends.1 ends.2))
+pub none-wrong : (may : Unseen) (board : Board) (entries : List Entry) (left : List Guess) → AreExact may board entries left → left ≡ [] → ¬ (HasLegalHistory may board entries)
+none-wrong may board entries left exact none history =
+    let ends = ends-of may board history.2 history.1 in
+    among-none may board entries ends.0 (subst (IsAmong may board entries ends.0) none (exact.all ends.0 ends.1 ends.2))
 
 -- what has a history with one more entry has one
-pub front-right : (refuses : Refusals) (board : Board) (entry : Entry) (entries : List Entry) → HasLegalHistory refuses board (entry ∷ entries) → HasLegalHistory refuses board entries
-front-right refuses board entry entries history =
-    let ends = ends-of refuses board history.2 history.1 in
+pub front-right : (may : Unseen) (board : Board) (entry : Entry) (entries : List Entry) → HasLegalHistory may board (entry ∷ entries) → HasLegalHistory may board entries
+front-right may board entry entries history =
+    let ends = ends-of may board history.2 history.1 in
     (ends.2.0, legal-front board ends.2.0 ends.2.1 (subst (IsLegal board) ends.2.2 ends.1), ends.2.3)

@@ -10,12 +10,11 @@ use Rattle.scmi_codec.specs.declared.message.Message.{Message}
 use Rattle.scmi_codec.specs.declared.frame.Frame.{Frame}
 use Rattle.scmi_codec.specs.declared.frame.Answer.{Answer}
 use Rattle.scmi_core.specs.declared.event.Event.{Event}
-use Rattle.scmi_core.specs.declared.event.Event.TheVariants.{Command, Advance, Sent, CommandFailed, AdvanceFailed, Restarted}
+use Rattle.scmi_core.specs.declared.event.Event.TheVariants.{Command, Sent, CommandFailed}
 use Rattle.scmi_core.specs.Effect.{effect_after}
 use Rattle.scmi_core.specs.History.{answer_to, delivered_messages, outbox}
 use Rattle.scmi_core.specs.Legal.{CanFollow, IsLegal}
 use Rattle.scmi_core.specs.Outbox.{is_sent_by}
-use Rattle.scmi_core.specs.Pending.{is_advance}
 use Rattle.scmi_core.specs.Reply.{failed_answer}
 use Rattle.scmi_core.specs.Standing.{MovesOn, Standing, StandsAfter}
 use Rattle.scmi_core.proofs.Laws.{delivered_empty, delivered_kept, delivered_other, delivered_sent}
@@ -24,36 +23,28 @@ use Rattle.scmi_judge.specs.Behind.{Behind, Fits, IsUnseen, taken_by}
 use Rattle.scmi_judge.specs.Guess.{CanShow, CannotCome, Gives, GivesNot, GoesOn, IsGuess, IsSameGuess, posted_to}
 use Rattle.scmi_judge.specs.declared.entry.Entry.{Entry}
 use Rattle.scmi_judge.specs.declared.guess.Guess.{Guess}
-use Rattle.scmi_judge.specs.declared.unseen.Refusals.{Refusals}
+use Rattle.scmi_judge.specs.declared.unseen.Unseen.{Unseen}
 use Rattle.scmi_judge.specs.declared.entry.Entry.TheVariants.{Answered, Delivered}
 
--- the end of a pending set posts nothing
-end-unsent : (a : ℕ) (e : Event) → is_advance e ≡ true → is_sent_by a e ≡ false
-end-unsent a Advance is = refl
-end-unsent a AdvanceFailed is = refl
-end-unsent a (Sent b) is = absurd (let no : false ≡ true = is in cc)
-end-unsent a (Command b f) is = refl
-end-unsent a (CommandFailed b f) is = refl
-end-unsent a (Restarted b) is = refl
-
 -- a guess's history is legal
-pub guess-legal : (refuses : Refusals) (board : Board) (g : Guess) (entries : List Entry) (h : List Event) → IsGuess refuses board g entries h → IsLegal board h
-guess-legal refuses board g entries h guess = subst (λ b. IsLegal b h) guess.of_board guess.stands.legal
+pub guess-legal : (may : Unseen) (board : Board) (g : Guess) (entries : List Entry) (h : List Event) → IsGuess may board g entries h → IsLegal board h
+guess-legal may board g entries h guess = subst (λ b. IsLegal b h) guess.of_board guess.stands.legal
 
 -- and so is that of what it moves on to
 pub moved-legal : (board : Board) (p new : Standing) (e : Event) (h : List Event) → p.board ≡ board → new.board ≡ p.board → MovesOn p e new → StandsAfter p h → IsLegal board (h ++ e ∷ [])
 moved-legal board p new e h is same moves stands = subst (λ b. IsLegal b (h ++ e ∷ [])) (same ∙ is) (moves h stands).legal
 
--- the end of a set moves a guess on
-pub goes-by-end : (refuses : Refusals) (g new : Guess) (e : Event) → is_advance e ≡ true
-    → ((h : List Event) (entries : List Entry) → StandsAfter g.platform h → IsUnseen refuses g.platform.board entries h e) → MovesOn g.platform e new.platform → new.platform.board ≡ g.platform.board → new.posted ≡ g.posted → GoesOn refuses g e new
-goes-by-end refuses g new e is unseen moves same posted board entries h guess =
+-- an event that posts nothing moves a guess on: the end of a set, or a restart
+pub goes-unsent : (may : Unseen) (g new : Guess) (e : Event)
+    → ((a : ℕ) → is_sent_by a e ≡ false)
+    → ((h : List Event) (entries : List Entry) → StandsAfter g.platform h → IsUnseen may g.platform.board entries h e) → MovesOn g.platform e new.platform → new.platform.board ≡ g.platform.board → new.posted ≡ g.posted → GoesOn may g e new
+goes-unsent may g new e unsent unseen moves same posted board entries h guess =
     record {
       of_board = same ∙ guess.of_board;
-      behind = Behind.unseen guess.behind e (subst (λ b. IsUnseen refuses b entries h e) guess.of_board (unseen h entries guess.stands));
+      behind = Behind.unseen guess.behind e (subst (λ b. IsUnseen may b entries h e) guess.of_board (unseen h entries guess.stands));
       stands = moves h guess.stands;
       channels = λ a agent.
-          delivered_kept board a h e (guess-legal refuses board g entries h guess) (end-unsent a e is) ∙ guess.channels a agent
+          delivered_kept board a h e (guess-legal may board g entries h guess) (unsent a) ∙ guess.channels a agent
           ∙ ap (λ ps. taken_by a entries ++ option_to_list (get_or ps (a - 1) None)) (sym posted);
     }
 
@@ -85,10 +76,10 @@ decide b a = by (b == a) refl where
   by false is = inr (eqb-false b a is)
 
 -- a posting moves a guess on
-pub goes-by-posting : (refuses : Refusals) (g new : Guess) (a : ℕ) (m : Message) → IsAgent (length g.platform.board.agents) a → a - 1 < length g.posted → posted_to g a ≡ None
+pub goes-by-posting : (may : Unseen) (g new : Guess) (a : ℕ) (m : Message) → IsAgent (length g.platform.board.agents) a → a - 1 < length g.posted → posted_to g a ≡ None
     → ((h : List Event) → StandsAfter g.platform h → slice_get (outbox g.platform.board a h) 0 ≡ Some m)
-    → MovesOn g.platform (Sent a) new.platform → new.platform.board ≡ g.platform.board → new.posted ≡ set g.posted (a - 1) (Some m) → GoesOn refuses g (Sent a) new
-goes-by-posting refuses g new a m agent within empty first moves same posted board entries h guess =
+    → MovesOn g.platform (Sent a) new.platform → new.platform.board ≡ g.platform.board → new.posted ≡ set g.posted (a - 1) (Some m) → GoesOn may g (Sent a) new
+goes-by-posting may g new a m agent within empty first moves same posted board entries h guess =
     let here : IsAgent (length board.agents) a = subst (λ b. IsAgent (length b.agents) a) guess.of_board agent in
     let none = channel-of (taken_by a entries) (delivered_messages board a h) (posted_to g a) (guess.channels a here) empty in
     let front : slice_get (outbox board a h) 0 ≡ Some m = subst (λ b. slice_get (outbox b a h) 0 ≡ Some m) guess.of_board (first h guess.stands) in
@@ -105,24 +96,24 @@ goes-by-posting refuses g new a m agent within empty first moves same posted boa
           (delivered_sent board a h m front ∙ ap (λ ms. ms ++ m ∷ []) none
           ∙ ap (λ p. taken_by a entries ++ option_to_list p) (sym (ap (λ ps. get_or ps (a - 1) None) posted ∙ get_or-set_same g.posted (a - 1) (Some m) None within)))
       at none front b is (inr other) =
-          delivered_other board b a h (guess-legal refuses board g entries h guess) other ∙ guess.channels b is
+          delivered_other board b a h (guess-legal may board g entries h guess) other ∙ guess.channels b is
           ∙ ap (λ p. taken_by b entries ++ option_to_list p)
           (sym (ap (λ ps. get_or ps (b - 1) None) posted ∙ get_or-set_other g.posted (a - 1) (b - 1) (Some m) None (other-place a b agent.0 is.0 other)))
 
 -- no posting into a channel that is not empty
-pub full-cannot : (refuses : Refusals) (g : Guess) (a : ℕ) (m : Message) → IsAgent (length g.platform.board.agents) a → posted_to g a ≡ Some m → CannotCome refuses g (Sent a)
-full-cannot refuses g a m agent full board entries h guess can =
+pub full-cannot : (may : Unseen) (g : Guess) (a : ℕ) (m : Message) → IsAgent (length g.platform.board.agents) a → posted_to g a ≡ Some m → CannotCome may g (Sent a)
+full-cannot may g a m agent full board entries h guess can =
     channel-full (taken_by a entries) (delivered_messages board a h) (posted_to g a) m
     (guess.channels a (subst (λ b. IsAgent (length b.agents) a) guess.of_board agent)) full can.unseen
 
 -- nor of a message that the platform can't post
-pub cannot-follow : (refuses : Refusals) (g : Guess) (e : Event) → ((h : List Event) → StandsAfter g.platform h → ¬ (CanFollow g.platform.board h e)) → CannotCome refuses g e
-cannot-follow refuses g e cannot board entries h guess can = cannot h guess.stands (subst (λ b. CanFollow b h e) (sym guess.of_board) can.follows)
+pub cannot-follow : (may : Unseen) (g : Guess) (e : Event) → ((h : List Event) → StandsAfter g.platform h → ¬ (CanFollow g.platform.board h e)) → CannotCome may g e
+cannot-follow may g e cannot board entries h guess can = cannot h guess.stands (subst (λ b. CanFollow b h e) (sym guess.of_board) can.follows)
 
 -- an agent that takes what was posted to it
-module _ (refuses : Refusals) (g new : Guess) (a : ℕ) (m : Message) (agent : IsAgent (length g.platform.board.agents) a) (within : a - 1 < length g.posted) (full : posted_to g a ≡ Some m)
+module _ (may : Unseen) (g new : Guess) (a : ℕ) (m : Message) (agent : IsAgent (length g.platform.board.agents) a) (within : a - 1 < length g.posted) (full : posted_to g a ≡ Some m)
     (same : new.platform ≡ g.platform) (posted : new.posted ≡ set g.posted (a - 1) None) where
-  taken-at : (board : Board) (entries : List Entry) (h : List Event) → IsGuess refuses board g entries h → (b : ℕ) → IsAgent (length board.agents) b → (b ≡ a) ⊎ (b ≢ a)
+  taken-at : (board : Board) (entries : List Entry) (h : List Event) → IsGuess may board g entries h → (b : ℕ) → IsAgent (length board.agents) b → (b ≡ a) ⊎ (b ≢ a)
       → delivered_messages board b h ≡ (taken_by b entries ++ option_to_list (if b == a then Some m else None)) ++ option_to_list (posted_to new b)
   taken-at board entries h guess b is (inl own) =
       subst (λ x. delivered_messages board x h ≡ (taken_by x entries ++ option_to_list (if x == a then Some m else None)) ++ option_to_list (posted_to new x)) (sym own)
@@ -138,8 +129,8 @@ module _ (refuses : Refusals) (g new : Guess) (a : ℕ) (m : Message) (agent : I
       ∙ ap (λ ms. ms ++ option_to_list (posted_to new b))
       (sym (ap (λ c. taken_by b entries ++ option_to_list (if c then Some m else None)) (ne_eqb b a other) ∙ append-nil (taken_by b entries)))
 
-  taken-each : (board : Board) (entries : List Entry) (h events : List Event) → IsGuess refuses board g entries h → CanShow board entries h (Delivered a m) events
-      → IsGuess refuses board new (Delivered a m ∷ entries) (h ++ events)
+  taken-each : (board : Board) (entries : List Entry) (h events : List Event) → IsGuess may board g entries h → CanShow board entries h (Delivered a m) events
+      → IsGuess may board new (Delivered a m ∷ entries) (h ++ events)
   taken-each board entries h events guess can =
       let nothing : h ++ events ≡ h = ap (λ es. h ++ es) can.fits.1 ∙ append-nil h in
       record {
@@ -149,7 +140,7 @@ module _ (refuses : Refusals) (g new : Guess) (a : ℕ) (m : Message) (agent : I
         channels = λ b is. ap (λ k. delivered_messages board b k) nothing ∙ taken-at board entries h guess b is (decide b a);
       }
 
-  pub gives-message : Gives refuses g (Delivered a m) new
+  pub gives-message : Gives may g (Delivered a m) new
   gives-message =
       record {
         some = λ board entries h guess. (
@@ -160,33 +151,33 @@ module _ (refuses : Refusals) (g new : Guess) (a : ℕ) (m : Message) (agent : I
               refl,
               guess.channels a (subst (λ b. IsAgent (length b.agents) a) guess.of_board agent) ∙ ap (λ p. taken_by a entries ++ option_to_list p) full,
             );
-            legal = subst (λ k. IsLegal board k) (sym (append-nil h)) (guess-legal refuses board g entries h guess);
+            legal = subst (λ k. IsLegal board k) (sym (append-nil h)) (guess-legal may board g entries h guess);
           },
         );
         each = taken-each;
       }
 
 -- an agent does not take what was not posted to it
-pub other-message : (refuses : Refusals) (g : Guess) (a : ℕ) (m : Message) → posted_to g a ≢ Some m → GivesNot refuses g (Delivered a m)
-other-message refuses g a m other board entries h events guess can =
+pub other-message : (may : Unseen) (g : Guess) (a : ℕ) (m : Message) → posted_to g a ≢ Some m → GivesNot may g (Delivered a m)
+other-message may g a m other board entries h events guess can =
     other (channel-has (taken_by a entries) (delivered_messages board a h) (posted_to g a) m (guess.channels a can.fits.0) can.fits.2)
 
 -- nor one that the board lacks
-pub stranger-message : (refuses : Refusals) (g : Guess) (a : ℕ) (m : Message) → ¬ (IsAgent (length g.platform.board.agents) a) → GivesNot refuses g (Delivered a m)
-stranger-message refuses g a m away board entries h events guess can = away (subst (λ b. IsAgent (length b.agents) a) (sym guess.of_board) can.fits.0)
+pub stranger-message : (may : Unseen) (g : Guess) (a : ℕ) (m : Message) → ¬ (IsAgent (length g.platform.board.agents) a) → GivesNot may g (Delivered a m)
+stranger-message may g a m away board entries h events guess can = away (subst (λ b. IsAgent (length b.agents) a) (sym guess.of_board) can.fits.0)
 
 -- a platform that answers a command, executed or refused by the hardware
-module _ (refuses : Refusals) (g new : Guess) (a : ℕ) (f : Frame) (x : Answer) (e : Event) where
+module _ (may : Unseen) (g new : Guess) (a : ℕ) (f : Frame) (x : Answer) (e : Event) where
   answered-each : is_sent_by a e ≡ false → ((b : ℕ) → is_sent_by b e ≡ false) → MovesOn g.platform e new.platform → new.platform.board ≡ g.platform.board → new.posted ≡ g.posted
-      → (board : Board) (entries : List Entry) (h events : List Event) → events ≡ e ∷ [] → IsGuess refuses board g entries h → Fits board entries h (Answered a f x) events
-      → IsGuess refuses board new (Answered a f x ∷ entries) (h ++ events)
+      → (board : Board) (entries : List Entry) (h events : List Event) → events ≡ e ∷ [] → IsGuess may board g entries h → Fits board entries h (Answered a f x) events
+      → IsGuess may board new (Answered a f x ∷ entries) (h ++ events)
   answered-each own unsent moves same posted board entries h events are guess fits =
       record {
         of_board = same ∙ guess.of_board;
         behind = Behind.shown guess.behind (Answered a f x) events fits;
         stands = subst (λ es. StandsAfter new.platform (h ++ es)) (sym are) (moves h guess.stands);
         channels = λ b is.
-            ap (λ es. delivered_messages board b (h ++ es)) are ∙ delivered_kept board b h e (guess-legal refuses board g entries h guess) (unsent b) ∙ guess.channels b is
+            ap (λ es. delivered_messages board b (h ++ es)) are ∙ delivered_kept board b h e (guess-legal may board g entries h guess) (unsent b) ∙ guess.channels b is
             ∙ ap (λ ps. taken_by b entries ++ option_to_list (get_or ps (b - 1) None)) (sym posted)
             ∙ ap (λ ms. ms ++ option_to_list (posted_to new b)) (sym (nothing-taken b entries));
       } where
@@ -194,11 +185,11 @@ module _ (refuses : Refusals) (g new : Guess) (a : ℕ) (f : Frame) (x : Answer)
         nothing-taken b entries = append-nil (taken_by b entries)
 
 -- a command is no posting
-pub gives-done : (refuses : Refusals) (g new : Guess) (a : ℕ) (f : Frame) (x : Answer) → MovesOn g.platform (Command a f) new.platform → new.platform.board ≡ g.platform.board → new.posted ≡ g.posted
+pub gives-done : (may : Unseen) (g new : Guess) (a : ℕ) (f : Frame) (x : Answer) → MovesOn g.platform (Command a f) new.platform → new.platform.board ≡ g.platform.board → new.posted ≡ g.posted
     → ((h : List Event) → StandsAfter g.platform h → x ≡ answer_to g.platform.board a f h)
     → ((h : List Event) → StandsAfter g.platform h → effect_after g.platform.board h (Command a f) ≢ None → x ≢ failed_answer f)
-    → Gives refuses g (Answered a f x) new
-gives-done refuses g new a f x moves same posted due only =
+    → Gives may g (Answered a f x) new
+gives-done may g new a f x moves same posted due only =
     record {
       some = λ board entries h guess. (
         Command a f ∷ [],
@@ -209,19 +200,19 @@ gives-done refuses g new a f x moves same posted due only =
       );
       each = λ board entries h events guess can. by board entries h events guess can.legal can.fits;
     } where
-      by : (board : Board) (entries : List Entry) (h events : List Event) → IsGuess refuses board g entries h → IsLegal board (h ++ events) → Fits board entries h (Answered a f x) events
-          → IsGuess refuses board new (Answered a f x ∷ entries) (h ++ events)
+      by : (board : Board) (entries : List Entry) (h events : List Event) → IsGuess may board g entries h → IsLegal board (h ++ events) → Fits board entries h (Answered a f x) events
+          → IsGuess may board new (Answered a f x ∷ entries) (h ++ events)
       by board entries h events guess legal (inl fits) =
-          answered-each refuses g new a f x (Command a f) refl (λ b. refl) moves same posted board entries h events fits.0 guess (inl fits)
+          answered-each may g new a f x (Command a f) refl (λ b. refl) moves same posted board entries h events fits.0 guess (inl fits)
       by board entries h events guess legal (inr fits) =
           absurd (only h guess.stands
           (subst (λ b. effect_after b h (Command a f) ≢ None) (sym guess.of_board)
           (IsLegal-last board h (CommandFailed a f) (subst (λ es. IsLegal board (h ++ es)) fits.0 legal)).1) fits.1)
 
-pub gives-failed : (refuses : Refusals) (g new : Guess) (a : ℕ) (f : Frame) (x : Answer) → MovesOn g.platform (CommandFailed a f) new.platform → new.platform.board ≡ g.platform.board → new.posted ≡ g.posted
+pub gives-failed : (may : Unseen) (g new : Guess) (a : ℕ) (f : Frame) (x : Answer) → MovesOn g.platform (CommandFailed a f) new.platform → new.platform.board ≡ g.platform.board → new.posted ≡ g.posted
     → x ≡ failed_answer f → ((h : List Event) → StandsAfter g.platform h → x ≢ answer_to g.platform.board a f h)
-    → Gives refuses g (Answered a f x) new
-gives-failed refuses g new a f x moves same posted due only =
+    → Gives may g (Answered a f x) new
+gives-failed may g new a f x moves same posted due only =
     record {
       some = λ board entries h guess. (
         CommandFailed a f ∷ [],
@@ -232,16 +223,16 @@ gives-failed refuses g new a f x moves same posted due only =
       );
       each = λ board entries h events guess can. by board entries h events guess can.fits;
     } where
-      by : (board : Board) (entries : List Entry) (h events : List Event) → IsGuess refuses board g entries h → Fits board entries h (Answered a f x) events
-          → IsGuess refuses board new (Answered a f x ∷ entries) (h ++ events)
+      by : (board : Board) (entries : List Entry) (h events : List Event) → IsGuess may board g entries h → Fits board entries h (Answered a f x) events
+          → IsGuess may board new (Answered a f x ∷ entries) (h ++ events)
       by board entries h events guess (inr fits) =
-          answered-each refuses g new a f x (CommandFailed a f) refl (λ b. refl) moves same posted board entries h events fits.0 guess (inr fits)
+          answered-each may g new a f x (CommandFailed a f) refl (λ b. refl) moves same posted board entries h events fits.0 guess (inr fits)
       by board entries h events guess (inl fits) = absurd (only h guess.stands (subst (λ b. x ≡ answer_to b a f h) (sym guess.of_board) fits.1))
 
-pub other-answer : (refuses : Refusals) (g : Guess) (a : ℕ) (f : Frame) (x : Answer) → ((h : List Event) → StandsAfter g.platform h → x ≢ answer_to g.platform.board a f h)
+pub other-answer : (may : Unseen) (g : Guess) (a : ℕ) (f : Frame) (x : Answer) → ((h : List Event) → StandsAfter g.platform h → x ≢ answer_to g.platform.board a f h)
     → ((h : List Event) → StandsAfter g.platform h → effect_after g.platform.board h (Command a f) ≢ None → x ≢ failed_answer f)
-    → GivesNot refuses g (Answered a f x)
-other-answer refuses g a f x undone unfailed board entries h events guess can = by can.fits where
+    → GivesNot may g (Answered a f x)
+other-answer may g a f x undone unfailed board entries h events guess can = by can.fits where
   by : Fits board entries h (Answered a f x) events → ⊥
   by (inl fits) = undone h guess.stands (subst (λ b. x ≡ answer_to b a f h) (sym guess.of_board) fits.1)
   by (inr fits) =
@@ -249,8 +240,8 @@ other-answer refuses g a f x undone unfailed board entries h events guess can = 
       (subst (λ b. effect_after b h (Command a f) ≢ None) (sym guess.of_board)
       (IsLegal-last board h (CommandFailed a f) (subst (λ es. IsLegal board (h ++ es)) fits.0 can.legal)).1) fits.1
 
-pub stranger-answer : (refuses : Refusals) (g : Guess) (a : ℕ) (f : Frame) (x : Answer) → ¬ (IsAgent (length g.platform.board.agents) a) → GivesNot refuses g (Answered a f x)
-stranger-answer refuses g a f x away board entries h events guess can = by can.fits where
+pub stranger-answer : (may : Unseen) (g : Guess) (a : ℕ) (f : Frame) (x : Answer) → ¬ (IsAgent (length g.platform.board.agents) a) → GivesNot may g (Answered a f x)
+stranger-answer may g a f x away board entries h events guess can = by can.fits where
   here : IsAgent (length board.agents) a → ⊥
   here is = away (subst (λ b. IsAgent (length b.agents) a) (sym guess.of_board) is)
 
@@ -274,10 +265,10 @@ none-at (suc (suc (suc (suc (suc (suc zero)))))) = refl
 none-at (suc (suc (suc (suc (suc (suc (suc zero))))))) = refl
 none-at (suc (suc (suc (suc (suc (suc (suc (suc i)))))))) = refl
 
-pub guess-start : (refuses : Refusals) (board : Board) (g : Guess) → g.platform.board ≡ board → StandsAfter g.platform [] → g.posted ≡ None ∷ None ∷ None ∷ None ∷ None ∷ None ∷ None ∷ None ∷ []
-    → IsGuess refuses board g [] []
+pub guess-start : (may : Unseen) (board : Board) (g : Guess) → g.platform.board ≡ board → StandsAfter g.platform [] → g.posted ≡ None ∷ None ∷ None ∷ None ∷ None ∷ None ∷ None ∷ None ∷ []
+    → IsGuess may board g [] []
 unfolding eight_none
-guess-start refuses board g same stands none =
+guess-start may board g same stands none =
     record {
       of_board = same;
       behind = Behind.nothing;
@@ -286,9 +277,9 @@ guess-start refuses board g same stands none =
     }
 
 -- a copy is the same guess
-pub same-guess : (refuses : Refusals) (g new : Guess) → new.platform ≡ g.platform → new.posted ≡ g.posted → IsSameGuess refuses g new
-same-guess refuses g new same posted board entries h guess =
-    subst (λ x. IsGuess refuses board x entries h) (λ i. record { platform = sym same i; posted = sym posted i }) guess
+pub same-guess : (may : Unseen) (g new : Guess) → new.platform ≡ g.platform → new.posted ≡ g.posted → IsSameGuess may g new
+same-guess may g new same posted board entries h guess =
+    subst (λ x. IsGuess may board x entries h) (λ i. record { platform = sym same i; posted = sym posted i }) guess
 
 -- eight items are the items at eight places
 pub eight : {X : Type 0} (xs : List X) (d : X) → length xs ≡ 8

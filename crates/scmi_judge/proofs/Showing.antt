@@ -1,9 +1,9 @@
 -- What each agent did, got and was posted in a history that is behind entries.
 use Rattle.std.proofs.Common.{◌≡◌, ◌≢◌, ◌⊎◌, inl, inr, ◌==◌, ℕ, Bool, true, false, List, [], ◌∷◌, ◌++◌, reverse, slice_get, Option, Some, None, refl, sym, ap, ◌∙◌, subst, if◌then◌else◌}
-use Rattle.std.specs.List.{filter_map, cons_option}
+use Rattle.std.specs.List.{All, filter_map, cons_option}
 use Rattle.std.specs.Option.{option_to_list}
 use Rattle.std.proofs.lemmas.List.{append-nil, reverse-append}
-use Rattle.std.proofs.lemmas.List.Elements.{filter_map-append}
+use Rattle.std.proofs.lemmas.List.Elements.{All-nil, All-push, filter_map-append}
 use Rattle.std.proofs.lemmas.Bool.{eq-eqb, ne_eqb}
 use Rattle.scmi_plan.specs.Board.{Board}
 use Rattle.scmi_codec.specs.declared.message.Message.{Message}
@@ -14,14 +14,15 @@ use Rattle.scmi_core.specs.declared.event.Event.TheVariants.{Command, Advance, S
 use Rattle.scmi_core.specs.Agents.{answer_for, answers_to, frame_from, frames_of}
 use Rattle.scmi_core.specs.History.{delivered_messages, outbox}
 use Rattle.scmi_core.specs.Legal.{IsLegal}
+use Rattle.scmi_core.specs.Plain.{IsNoRestart}
 use Rattle.scmi_core.proofs.Deeds.{fold_with_prefix-push}
-use Rattle.scmi_core.proofs.Laws.{IsQuiet, advance, advance_failed, sent_to, answers_empty, answers_quiet, delivered_empty, delivered_kept, delivered_other, delivered_sent, frames_empty, frames_quiet}
+use Rattle.scmi_core.proofs.Laws.{IsQuiet, advance, advance_failed, restarted, sent_to, answers_empty, answers_quiet, delivered_empty, delivered_kept, delivered_other, delivered_sent, frames_empty, frames_quiet}
 use Rattle.scmi_core.proofs.Legal.{IsLegal-front, IsLegal-last}
 use Rattle.scmi_judge.specs.Behind.{Behind, Fits, HasAtMostOne, IsUnseen, taken_by}
 use Rattle.scmi_judge.specs.Shown.{answer_shown, frame_shown, message_shown}
 use Rattle.scmi_judge.specs.declared.entry.Entry.{Entry}
 use Rattle.scmi_judge.specs.declared.entry.Entry.TheVariants.{Answered, Delivered}
-use Rattle.scmi_judge.specs.declared.unseen.Refusals.{Refusals}
+use Rattle.scmi_judge.specs.declared.unseen.Unseen.{Unseen}
 use Rattle.scmi_judge.proofs.Different.{first-of}
 use Rattle.scmi_judge.proofs.Exactness.{legal-front}
 use Rattle.scmi_judge.proofs.Guessing.{decide}
@@ -32,13 +33,13 @@ shown-more : {X : Type 0} (shows : Entry → Option X) (entry : Entry) (entries 
 shown-more shows entry entries = ap (filter_map shows) (reverse-append (entry ∷ []) entries) ∙ filter_map-append shows (reverse entries) (entry ∷ [])
 
 -- an unseen event is no command
-quiet : (refuses : Refusals) (board : Board) (entries : List Entry) (h : List Event) (e : Event) → IsUnseen refuses board entries h e → IsQuiet e
-quiet refuses board entries h Advance is = advance
-quiet refuses board entries h AdvanceFailed is = advance_failed
-quiet refuses board entries h (Sent a) is = sent_to a
-quiet refuses board entries h (Command a f) is = absurd is
-quiet refuses board entries h (CommandFailed a f) is = absurd is
-quiet refuses board entries h (Restarted a) is = absurd is
+quiet : (may : Unseen) (board : Board) (entries : List Entry) (h : List Event) (e : Event) → IsUnseen may board entries h e → IsQuiet e
+quiet may board entries h Advance is = advance
+quiet may board entries h AdvanceFailed is = advance_failed
+quiet may board entries h (Sent a) is = sent_to a
+quiet may board entries h (Command a f) is = absurd is
+quiet may board entries h (CommandFailed a f) is = absurd is
+quiet may board entries h (Restarted a) is = restarted a
 
 frames-more : (a : ℕ) (h : List Event) (e : Event) → frames_of a (h ++ e ∷ []) ≡ frames_of a h ++ cons_option (frame_from a e) []
 unfolding frames_of
@@ -52,7 +53,7 @@ one-if : {X : Type 0} (c : Bool) (x : X) → (if c then x ∷ [] else []) ≡ co
 one-if true x = refl
 one-if false x = refl
 
-module _ (refuses : Refusals) (board : Board) where
+module _ (may : Unseen) (board : Board) where
   -- an answered command, done or failed, adds its frame and its answer
   frames-answered : (entries : List Entry) (h events : List Event) (b : ℕ) (f : Frame) (x : Answer) → Fits board entries h (Answered b f x) events → (a : ℕ)
       → frames_of a h ≡ filter_map (frame_shown a) (reverse entries) → frames_of a (h ++ events) ≡ filter_map (frame_shown a) (reverse (Answered b f x ∷ entries))
@@ -84,16 +85,16 @@ module _ (refuses : Refusals) (board : Board) where
   nothing-shown shows entry entries none =
       sym (shown-more shows entry entries ∙ ap (λ o. filter_map shows (reverse entries) ++ cons_option o []) none ∙ append-nil (filter_map shows (reverse entries)))
 
-  pub frames-shown : {entries : List Entry} {h : List Event} → Behind refuses board entries h → (a : ℕ) → frames_of a h ≡ filter_map (frame_shown a) (reverse entries)
+  pub frames-shown : {entries : List Entry} {h : List Event} → Behind may board entries h → (a : ℕ) → frames_of a h ≡ filter_map (frame_shown a) (reverse entries)
   frames-shown Behind.nothing a = frames_empty a
-  frames-shown (Behind.unseen {entries} {h} behind event is) a = frames_quiet a h event (quiet refuses board entries h event is) ∙ frames-shown behind a
+  frames-shown (Behind.unseen {entries} {h} behind event is) a = frames_quiet a h event (quiet may board entries h event is) ∙ frames-shown behind a
   frames-shown (Behind.shown {entries} {h} behind (Answered b f x) events fits) a = frames-answered entries h events b f x fits a (frames-shown behind a)
   frames-shown (Behind.shown {entries} {h} behind (Delivered b m) events fits) a =
       ap (λ es. frames_of a (h ++ es)) fits.1 ∙ ap (frames_of a) (append-nil h) ∙ frames-shown behind a ∙ nothing-shown (frame_shown a) (Delivered b m) entries refl
 
-  pub answers-shown : {entries : List Entry} {h : List Event} → Behind refuses board entries h → (a : ℕ) → answers_to board a h ≡ filter_map (answer_shown a) (reverse entries)
+  pub answers-shown : {entries : List Entry} {h : List Event} → Behind may board entries h → (a : ℕ) → answers_to board a h ≡ filter_map (answer_shown a) (reverse entries)
   answers-shown Behind.nothing a = answers_empty board a
-  answers-shown (Behind.unseen {entries} {h} behind event is) a = answers_quiet board a h event (quiet refuses board entries h event is) ∙ answers-shown behind a
+  answers-shown (Behind.unseen {entries} {h} behind event is) a = answers_quiet board a h event (quiet may board entries h event is) ∙ answers-shown behind a
   answers-shown (Behind.shown {entries} {h} behind (Answered b f x) events fits) a = answers-answered entries h events b f x fits a (answers-shown behind a)
   answers-shown (Behind.shown {entries} {h} behind (Delivered b m) events fits) a =
       ap (λ es. answers_to board a (h ++ es)) fits.1 ∙ ap (answers_to board a) (append-nil h) ∙ answers-shown behind a ∙ nothing-shown (answer_shown a) (Delivered b m) entries refl
@@ -104,7 +105,7 @@ module _ (refuses : Refusals) (board : Board) where
   same-posted entries h k entry a kept none one =
       (one.0, kept ∙ one.1 ∙ ap (λ ms. ms ++ option_to_list one.0) (sym (ap (λ o. taken_by a entries ++ option_to_list o) none ∙ append-nil (taken_by a entries))))
 
-  posted-more : (entries : List Entry) (h : List Event) (e : Event) → IsLegal board (h ++ e ∷ []) → IsUnseen refuses board entries h e → (a : ℕ) → HasAtMostOne board entries h a
+  posted-more : (entries : List Entry) (h : List Event) (e : Event) → IsLegal board (h ++ e ∷ []) → IsUnseen may board entries h e → (a : ℕ) → HasAtMostOne board entries h a
       → HasAtMostOne board entries (h ++ e ∷ []) a
   posted-more entries h Advance legal is a one = (one.0, delivered_kept board a h Advance (IsLegal-front board h Advance legal) refl ∙ one.1)
   posted-more entries h AdvanceFailed legal is a one = (one.0, delivered_kept board a h AdvanceFailed (IsLegal-front board h AdvanceFailed legal) refl ∙ one.1)
@@ -119,7 +120,10 @@ module _ (refuses : Refusals) (board : Board) where
     by (inr other) = (one.0, delivered_other board a b h (IsLegal-front board h (Sent b) legal) other ∙ one.1)
   posted-more entries h (Command b f) legal is a one = absurd is
   posted-more entries h (CommandFailed b f) legal is a one = absurd is
-  posted-more entries h (Restarted b) legal is a one = absurd is
+  posted-more entries h (Restarted b) legal is a one = (
+    one.0,
+    delivered_kept board a h (Restarted b) (IsLegal-front board h (Restarted b) legal) refl ∙ one.1,
+  )
 
   posted-answered : (entries : List Entry) (h events : List Event) (b : ℕ) (f : Frame) (x : Answer) → Fits board entries h (Answered b f x) events → IsLegal board h → (a : ℕ)
       → HasAtMostOne board entries h a → HasAtMostOne board (Answered b f x ∷ entries) (h ++ events) a
@@ -143,7 +147,7 @@ module _ (refuses : Refusals) (board : Board) where
         )
     by (inr other) = same-posted entries h (h ++ events) (Delivered b m) a (ap (delivered_messages board a) nothing) (ap (λ c. if c then Some m else None) (ne_eqb a b other)) one
 
-  pub messages-shown : {entries : List Entry} {h : List Event} → Behind refuses board entries h → IsLegal board h → (a : ℕ) → HasAtMostOne board entries h a
+  pub messages-shown : {entries : List Entry} {h : List Event} → Behind may board entries h → IsLegal board h → (a : ℕ) → HasAtMostOne board entries h a
   messages-shown Behind.nothing legal a = (None, delivered_empty board a)
   messages-shown (Behind.unseen {entries} {h} behind event is) legal a = posted-more entries h event legal is a (messages-shown behind (IsLegal-front board h event legal) a)
   messages-shown (Behind.shown {entries} {h} behind (Answered b f x) events fits) legal a =
@@ -151,3 +155,36 @@ module _ (refuses : Refusals) (board : Board) where
       posted-answered entries h events b f x fits before a (messages-shown behind before a)
   messages-shown (Behind.shown {entries} {h} behind (Delivered b m) events fits) legal a =
       posted-taken entries h events b m fits a (messages-shown behind (legal-front board h events legal) a)
+
+-- no agent restarts in it if none may
+no-restart : (may : Unseen) (board : Board) (entries : List Entry) (h : List Event) (e : Event)
+    → may.restarts ≡ false → IsUnseen may board entries h e → IsNoRestart e
+no-restart may board entries h Advance never is = tt
+no-restart may board entries h AdvanceFailed never is = tt
+no-restart may board entries h (Sent a) never is = tt
+no-restart may board entries h (Command a f) never is = absurd is
+no-restart may board entries h (CommandFailed a f) never is = absurd is
+no-restart may board entries h (Restarted a) never is =
+    absurd (let same : false ≡ true = sym never ∙ is in cc)
+
+no-restart-answered : (board : Board) (entries : List Entry) (h events : List Event) (b : ℕ)
+    (f : Frame) (x : Answer) → Fits board entries h (Answered b f x) events → All IsNoRestart h
+    → All IsNoRestart (h ++ events)
+no-restart-answered board entries h events b f x (inl done) before =
+    subst (λ es. All IsNoRestart (h ++ es)) (sym done.0)
+    (All-push IsNoRestart h (Command b f) before tt)
+no-restart-answered board entries h events b f x (inr failed) before =
+    subst (λ es. All IsNoRestart (h ++ es)) (sym failed.0)
+    (All-push IsNoRestart h (CommandFailed b f) before tt)
+
+pub no-restarts : (may : Unseen) (board : Board) → may.restarts ≡ false
+    → {entries : List Entry} {h : List Event} → Behind may board entries h → All IsNoRestart h
+no-restarts may board never Behind.nothing = All-nil IsNoRestart
+no-restarts may board never (Behind.unseen {entries} {h} behind event is) =
+    All-push IsNoRestart h event (no-restarts may board never behind)
+    (no-restart may board entries h event never is)
+no-restarts may board never (Behind.shown {entries} {h} behind (Answered b f x) events fits) =
+    no-restart-answered board entries h events b f x fits (no-restarts may board never behind)
+no-restarts may board never (Behind.shown {entries} {h} behind (Delivered b m) events fits) =
+    subst (All IsNoRestart) (sym (ap (λ es. h ++ es) fits.1 ∙ append-nil h))
+    (no-restarts may board never behind)

@@ -16,6 +16,7 @@ use Rattle.scmi_judge.specs.declared.entry.Entry.{Entry}
 use Rattle.scmi_judge.specs.declared.entry.Entry.TheVariants as entry
 use Rattle.scmi_judge.specs.declared.unseen.Refusals.{Refusals}
 use Rattle.scmi_judge.specs.declared.unseen.Refusals.TheVariants.{None, Answered, Any}
+use Rattle.scmi_judge.specs.declared.unseen.Unseen.{Unseen}
 
 -- the messages that agent a is seen to take, in order
 abbrev pub taken_by : ℕ → List Entry → List Message
@@ -41,15 +42,16 @@ may_refuse Answered board h = is_first_wanted board h
 may_refuse Any board h = true
 
 -- after a history that is behind these entries an event may come that no entry shows by itself: a pending set completes;
--- or the hardware refuses its change, if it may; or a message is posted into its agent's channel, if that is empty, so that at most one is posted and not yet seen
--- (own: no agent restarts, and a command is executed at the place of its answer)
-abbrev pub IsUnseen : Refusals → Board → List Entry → List Event → Event → Type 0
-IsUnseen refuses board entries h Advance = Unit {0}
-IsUnseen refuses board entries h AdvanceFailed = may_refuse refuses board h ≡ true
-IsUnseen refuses board entries h (Sent a) = HasEmptyChannel board entries h a
-IsUnseen refuses board entries h (Command a frame) = ⊥
-IsUnseen refuses board entries h (CommandFailed a frame) = ⊥
-IsUnseen refuses board entries h (Restarted a) = ⊥
+-- or the hardware refuses its change, if it may; or a message is posted into its agent's channel, if that is empty, so that at most one is posted and not yet seen;
+-- or an agent restarts, if agents may
+-- (own: a command is executed at the place of its answer)
+abbrev pub IsUnseen : Unseen → Board → List Entry → List Event → Event → Type 0
+IsUnseen may board entries h Advance = Unit {0}
+IsUnseen may board entries h AdvanceFailed = may_refuse may.refusals board h ≡ true
+IsUnseen may board entries h (Sent a) = HasEmptyChannel board entries h a
+IsUnseen may board entries h (Command a frame) = ⊥
+IsUnseen may board entries h (CommandFailed a frame) = ⊥
+IsUnseen may board entries h (Restarted a) = may.restarts ≡ true
 
 -- after a history that is behind these entries, these events are behind one more: a command with the answer that it gets
 -- there, or one whose change the hardware refused, with the answer to that; or nothing more, and the message is the one
@@ -62,17 +64,17 @@ Fits board entries h (entry.Delivered a message) events =
     IsAgent (length board.agents) a × (events ≡ []) × (delivered_messages board a h ≡ taken_by a entries ++ message ∷ [])
 
 -- a history is behind these entries, newest first: they show what they show of it, and unseen events stand anywhere
-pub data Behind (refuses : Refusals) (board : Board) : List Entry → List Event → Type 0 where
-  nothing : Behind refuses board [] []
-  unseen : {entries : List Entry} {h : List Event} → Behind refuses board entries h → (event : Event) → IsUnseen refuses board entries h event
-      → Behind refuses board entries (h ++ event ∷ [])
-  shown : {entries : List Entry} {h : List Event} → Behind refuses board entries h → (entry : Entry) (events : List Event) → Fits board entries h entry events
-      → Behind refuses board (entry ∷ entries) (h ++ events)
+pub data Behind (may : Unseen) (board : Board) : List Entry → List Event → Type 0 where
+  nothing : Behind may board [] []
+  unseen : {entries : List Entry} {h : List Event} → Behind may board entries h → (event : Event) → IsUnseen may board entries h event
+      → Behind may board entries (h ++ event ∷ [])
+  shown : {entries : List Entry} {h : List Event} → Behind may board entries h → (entry : Entry) (events : List Event) → Fits board entries h entry events
+      → Behind may board (entry ∷ entries) (h ++ events)
 
 -- a legal history of a board is behind these entries, newest first
-abbrev pub HasLegalHistory : Refusals → Board → List Entry → Type 0
-HasLegalHistory refuses board entries = (h : List Event) × IsLegal board h × Behind refuses board entries h
+abbrev pub HasLegalHistory : Unseen → Board → List Entry → Type 0
+HasLegalHistory may board entries = (h : List Event) × IsLegal board h × Behind may board entries h
 
 -- a record is right: a legal history of the board is behind it
-abbrev pub IsRight : Refusals → Board → List Entry → Type 0
-IsRight refuses board entries = HasLegalHistory refuses board (reverse entries)
+abbrev pub IsRight : Unseen → Board → List Entry → Type 0
+IsRight may board entries = HasLegalHistory may board (reverse entries)

@@ -11,31 +11,31 @@ use Rattle.scmi_core.specs.Standing.{StandsAfter}
 use Rattle.scmi_judge.specs.Behind.{Behind, Fits, IsUnseen, taken_by}
 use Rattle.scmi_judge.specs.declared.entry.Entry.{Entry}
 use Rattle.scmi_judge.specs.declared.guess.Guess.{Guess}
-use Rattle.scmi_judge.specs.declared.unseen.Refusals.{Refusals}
+use Rattle.scmi_judge.specs.declared.unseen.Unseen.{Unseen}
 
 -- the message in the channel to agent a
 abbrev pub posted_to : Guess → ℕ → Option Message
 posted_to g a = get_or g.posted (a - 1) None
 
 -- a guess is the platform of a board as this history leaves it, which is behind these entries
-pub record IsGuess (refuses : Refusals) (board : Board) (g : Guess) (entries : List Entry) (h : List Event) : Type 0 where
+pub record IsGuess (may : Unseen) (board : Board) (g : Guess) (entries : List Entry) (h : List Event) : Type 0 where
   pub of_board : g.platform.board ≡ board
-  pub behind : Behind refuses board entries h
+  pub behind : Behind may board entries h
   pub stands : StandsAfter g.platform h
   pub channels : (a : ℕ) → IsAgent (length board.agents) a → delivered_messages board a h ≡ taken_by a entries ++ option_to_list (posted_to g a)
 
 -- an unseen event may come after a history that is behind these entries
-pub record CanCome (refuses : Refusals) (board : Board) (entries : List Entry) (h : List Event) (event : Event) : Type 0 where
-  pub unseen : IsUnseen refuses board entries h event
+pub record CanCome (may : Unseen) (board : Board) (entries : List Entry) (h : List Event) (event : Event) : Type 0 where
+  pub unseen : IsUnseen may board entries h event
   pub follows : CanFollow board h event
 
 -- an event moves a guess on, whatever it is behind
-abbrev pub GoesOn : Refusals → Guess → Event → Guess → Type 0
-GoesOn refuses g event new = (board : Board) (entries : List Entry) (h : List Event) → IsGuess refuses board g entries h → IsGuess refuses board new entries (h ++ event ∷ [])
+abbrev pub GoesOn : Unseen → Guess → Event → Guess → Type 0
+GoesOn may g event new = (board : Board) (entries : List Entry) (h : List Event) → IsGuess may board g entries h → IsGuess may board new entries (h ++ event ∷ [])
 
 -- an event can't come after a guess, whatever it is behind
-abbrev pub CannotCome : Refusals → Guess → Event → Type 0
-CannotCome refuses g event = (board : Board) (entries : List Entry) (h : List Event) → IsGuess refuses board g entries h → ¬ (CanCome refuses board entries h event)
+abbrev pub CannotCome : Unseen → Guess → Event → Type 0
+CannotCome may g event = (board : Board) (entries : List Entry) (h : List Event) → IsGuess may board g entries h → ¬ (CanCome may board entries h event)
 
 -- these events may be behind an entry after a history that is behind those before it
 pub record CanShow (board : Board) (entries : List Entry) (h : List Event) (entry : Entry) (events : List Event) : Type 0 where
@@ -43,23 +43,23 @@ pub record CanShow (board : Board) (entries : List Entry) (h : List Event) (entr
   pub legal : IsLegal board (h ++ events)
 
 -- a guess gives an entry, whatever it is behind, and then it is the new one
-pub record Gives (refuses : Refusals) (g : Guess) (entry : Entry) (new : Guess) : Type 0 where
-  pub some : (board : Board) (entries : List Entry) (h : List Event) → IsGuess refuses board g entries h → (events : List Event) × CanShow board entries h entry events
-  pub each : (board : Board) (entries : List Entry) (h events : List Event) → IsGuess refuses board g entries h → CanShow board entries h entry events
-      → IsGuess refuses board new (entry ∷ entries) (h ++ events)
+pub record Gives (may : Unseen) (g : Guess) (entry : Entry) (new : Guess) : Type 0 where
+  pub some : (board : Board) (entries : List Entry) (h : List Event) → IsGuess may board g entries h → (events : List Event) × CanShow board entries h entry events
+  pub each : (board : Board) (entries : List Entry) (h events : List Event) → IsGuess may board g entries h → CanShow board entries h entry events
+      → IsGuess may board new (entry ∷ entries) (h ++ events)
 
 -- a guess does not give an entry, whatever it is behind
-abbrev pub GivesNot : Refusals → Guess → Entry → Type 0
-GivesNot refuses g entry = (board : Board) (entries : List Entry) (h events : List Event) → IsGuess refuses board g entries h → ¬ (CanShow board entries h entry events)
+abbrev pub GivesNot : Unseen → Guess → Entry → Type 0
+GivesNot may g entry = (board : Board) (entries : List Entry) (h events : List Event) → IsGuess may board g entries h → ¬ (CanShow board entries h entry events)
 
 -- whatever one guess is, the other is as well
-abbrev pub IsSameGuess : Refusals → Guess → Guess → Type 0
-IsSameGuess refuses g new = (board : Board) (entries : List Entry) (h : List Event) → IsGuess refuses board g entries h → IsGuess refuses board new entries h
+abbrev pub IsSameGuess : Unseen → Guess → Guess → Type 0
+IsSameGuess may g new = (board : Board) (entries : List Entry) (h : List Event) → IsGuess may board g entries h → IsGuess may board new entries h
 
 -- a guess is the platform of some history behind these entries
-abbrev pub IsReal : Refusals → Board → List Entry → Guess → Type 0
-IsReal refuses board entries g = (h : List Event) × IsGuess refuses board g entries h
+abbrev pub IsReal : Unseen → Board → List Entry → Guess → Type 0
+IsReal may board entries g = (h : List Event) × IsGuess may board g entries h
 
 -- one of these guesses is the platform of this history behind these entries
-abbrev pub IsAmong : Refusals → Board → List Entry → List Event → List Guess → Type 0
-IsAmong refuses board entries h guesses = (k : ℕ) × (g : Guess) × (slice_get guesses k ≡ Some g) × IsGuess refuses board g entries h
+abbrev pub IsAmong : Unseen → Board → List Entry → List Event → List Guess → Type 0
+IsAmong may board entries h guesses = (k : ℕ) × (g : Guess) × (slice_get guesses k ≡ Some g) × IsGuess may board g entries h

@@ -1,11 +1,12 @@
 -- The events that no entry shows by itself.
 use Rattle.scmi_core.specs.declared.event.Event.{Event}
-use Rattle.scmi_core.specs.declared.event.Event.TheVariants.{Advance, AdvanceFailed, Sent}
+use Rattle.scmi_core.specs.declared.event.Event.TheVariants.{Advance, AdvanceFailed, Restarted, Sent}
 use Rattle.scmi_judge.specs.declared.unseen.Step.{Step}
-use Rattle.scmi_judge.specs.declared.unseen.Step.TheVariants.{Complete, Refuse, Post}
+use Rattle.scmi_judge.specs.declared.unseen.Step.TheVariants.{Complete, Post, Refuse, Restart}
 
 -- the event of a step
 abbrev pub event_of : Step → Event
 event_of Complete = Advance
 event_of Refuse = AdvanceFailed
 event_of (Post a) = Sent a
+event_of (Restart a) = Restarted a

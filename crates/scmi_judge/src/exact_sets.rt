@@ -5,7 +5,7 @@ ghost use Rattle.scmi_judge.specs.Behind.{HasLegalHistory};
 ghost use Rattle.scmi_judge.specs.Exact.{AreClosed, AreExact, HaveGiven, HaveKept};
 ghost use Rattle.scmi_judge.specs.Guess.{IsGuess};
 ghost use Rattle.scmi_judge.specs.declared.guess.Guess.{Guess};
-ghost use Rattle.scmi_judge.specs.declared.unseen.Refusals.{Refusals};
+ghost use Rattle.scmi_judge.specs.declared.unseen.Unseen.{Unseen};
 ghost use Rattle.scmi_judge.specs.declared.entry.Entry.{Entry};
 
 /// What every set of platforms says of a record, if it has exactly the platforms that may be behind
@@ -13,21 +13,21 @@ ghost use Rattle.scmi_judge.specs.declared.entry.Entry.{Entry};
 /// Let a set be exact for some entries. If all that its platforms move on to by events that no
 /// entry shows are added, and those that give the next entry are kept, as they are after it, then
 /// what is left is exact for the entries with that one. If something is left, a legal history is
-/// behind these entries, and if nothing is left none is. `refuses` is which changes the hardware
-/// may refuse unseen. The function does nothing: its clauses are the laws.
+/// behind these entries, and if nothing is left none is. `may` is what may happen that no entry
+/// shows. The function does nothing: its clauses are the laws.
 pub fn every_exact_set()
-    ensures start { (refuses : Refusals) (board : Board) (g : Guess)
-        → IsGuess refuses board g [] [] → AreExact refuses board [] (g ∷ []) }
-    ensures next { (refuses : Refusals) (board : Board) (entries : List Entry) (entry : Entry)
-        (guesses all left : List Guess) → AreExact refuses board entries guesses
-        → HaveKept refuses guesses all → AreClosed refuses all
-        → HaveGiven refuses all entry left → AreExact refuses board (entry ∷ entries) left }
-    ensures right { (refuses : Refusals) (board : Board) (entries : List Entry)
-        (guesses : List Guess) → AreExact refuses board entries guesses → guesses ≢ []
-        → HasLegalHistory refuses board entries }
-    ensures wrong { (refuses : Refusals) (board : Board) (entries : List Entry)
-        (guesses : List Guess) → AreExact refuses board entries guesses → guesses ≡ []
-        → ¬ (HasLegalHistory refuses board entries) }
+    ensures start { (may : Unseen) (board : Board) (g : Guess)
+        → IsGuess may board g [] [] → AreExact may board [] (g ∷ []) }
+    ensures next { (may : Unseen) (board : Board) (entries : List Entry) (entry : Entry)
+        (guesses all left : List Guess) → AreExact may board entries guesses
+        → HaveKept may guesses all → AreClosed may all
+        → HaveGiven may all entry left → AreExact may board (entry ∷ entries) left }
+    ensures right { (may : Unseen) (board : Board) (entries : List Entry)
+        (guesses : List Guess) → AreExact may board entries guesses → guesses ≢ []
+        → HasLegalHistory may board entries }
+    ensures wrong { (may : Unseen) (board : Board) (entries : List Entry)
+        (guesses : List Guess) → AreExact may board entries guesses → guesses ≡ []
+        → ¬ (HasLegalHistory may board entries) }
 {
     // Nothing to do: the clauses hold of every set.
 }

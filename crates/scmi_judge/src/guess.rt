@@ -10,13 +10,13 @@ ghost use Rattle.scmi_judge.specs.Behind.{may_refuse};
 ghost use Rattle.scmi_judge.specs.Guess.{CannotCome, Gives, GivesNot, GoesOn, IsGuess, posted_to};
 ghost use Rattle.scmi_judge.specs.Unseen.{event_of};
 ghost use Rattle.scmi_judge.specs.declared.entry.Entry.TheVariants as entry;
-ghost use Rattle.scmi_judge.specs.declared.unseen.Refusals.{Refusals as Refused};
-ghost use Rattle.scmi_core.specs.declared.event.Event.TheVariants.{AdvanceFailed, Command, Sent};
+ghost use Rattle.scmi_judge.specs.declared.unseen.Unseen.{Unseen as Hidden};
+ghost use Rattle.scmi_core.specs.declared.event.Event.TheVariants.{AdvanceFailed, Command, Restarted, Sent};
 
 use crate::entry::Entry;
 use crate::same::{is_same_answer, is_same_message};
 use crate::shown::has_succeeded;
-use crate::unseen::{Refusals, Step};
+use crate::unseen::{Refusals, Step, Unseen};
 use scmi_codec::{Answer, Frame, Message};
 use scmi_core::{Answered, Platform};
 use scmi_plan::{AGENTS, Plan};
@@ -34,7 +34,7 @@ impl Guess {
     /// The platform of a board at the start.
     pub fn new(plan: Plan) -> Guess
         ensures board { result.platform.board ≡ plan }
-        ensures start { (refuses : Refused) → IsGuess refuses plan result [] [] }
+        ensures start { (may : Hidden) → IsGuess may plan result [] [] }
     {
         let platform = Platform::new(plan);
         let posted = [None, None, None, None, None, None, None, None];
@@ -66,24 +66,25 @@ impl Guess {
         agent >= 1 && agent <= self.platform.agents()
     }
 
-    /// Whether a step may come; `refuses` is which changes the hardware may refuse.
-    pub fn can_come(&self, step: Step, refuses: Refusals) -> bool
-        ensures { result ≡ false → CannotCome refuses self.now (event_of step) }
+    /// Whether a step may come; `unseen` is what may happen unseen.
+    pub fn can_come(&self, step: Step, unseen: Unseen) -> bool
+        ensures { result ≡ false → CannotCome unseen self.now (event_of step) }
     {
         match step {
             Step::Complete => !self.platform.pending_sets().is_empty(),
-            Step::Refuse => self.can_refuse(refuses),
+            Step::Refuse => self.can_refuse(unseen),
             Step::Post { agent } => self.can_post(agent),
+            Step::Restart { agent } => unseen.restarts && self.has_agent(agent),
         }
     }
 
     /// Whether the hardware may refuse the change of the first pending set.
-    fn can_refuse(&self, refuses: Refusals) -> bool
+    fn can_refuse(&self, unseen: Unseen) -> bool
         ensures may { result ≡ true → (h : List Event) → StandsAfter self.now.platform h
-            → may_refuse refuses self.now.platform.board h ≡ true }
-        ensures cannot { result ≡ false → CannotCome refuses self.now AdvanceFailed }
+            → may_refuse unseen.refusals self.now.platform.board h ≡ true }
+        ensures cannot { result ≡ false → CannotCome unseen self.now AdvanceFailed }
     {
-        match (self.platform.pending_sets(), refuses) {
+        match (self.platform.pending_sets(), unseen.refusals) {
             ([], _) | (_, Refusals::None) => false,
             ([set, ..], Refusals::Answered) => set.wanted,
             (_, Refusals::Any) => true,
@@ -95,8 +96,8 @@ impl Guess {
         ensures agent { result ≡ true → IsAgent (length self.now.platform.board.agents) agent }
         ensures few { result ≡ true → agent ≤ MOST }
         ensures empty { result ≡ true → posted_to self.now agent ≡ None }
-        ensures cannot { result ≡ false → (refuses : Refused)
-            → CannotCome refuses self.now (Sent agent) }
+        ensures cannot { result ≡ false → (may : Hidden)
+            → CannotCome may self.now (Sent agent) }
     {
         if !self.has_agent(agent) || self.platform.first(agent).is_none() {
             return false;
@@ -105,26 +106,27 @@ impl Guess {
     }
 
     /// Makes a step; `false` if it can't come.
-    pub fn make(&mut self, step: Step, refuses: Refusals) -> bool
-        ensures goes { result ≡ true → GoesOn refuses self.old (event_of step) self.new }
-        ensures cannot { result ≡ false → CannotCome refuses self.old (event_of step) }
+    pub fn make(&mut self, step: Step, unseen: Unseen) -> bool
+        ensures goes { result ≡ true → GoesOn unseen self.old (event_of step) self.new }
+        ensures cannot { result ≡ false → CannotCome unseen self.old (event_of step) }
         ensures board { self.new.platform.board ≡ self.old.platform.board }
     {
         match step {
             Step::Complete => self.platform.advance(),
-            Step::Refuse => self.refuse(refuses),
+            Step::Refuse => self.refuse(unseen),
             Step::Post { agent } => self.post(agent),
+            Step::Restart { agent } => self.restart(agent, unseen),
         }
     }
 
     /// The hardware refuses the change of the first pending set; `false` if it can't, and then
     /// nothing changed.
-    fn refuse(&mut self, refuses: Refusals) -> bool
-        ensures goes { result ≡ true → GoesOn refuses self.old AdvanceFailed self.new }
-        ensures cannot { result ≡ false → CannotCome refuses self.old AdvanceFailed }
+    fn refuse(&mut self, unseen: Unseen) -> bool
+        ensures goes { result ≡ true → GoesOn unseen self.old AdvanceFailed self.new }
+        ensures cannot { result ≡ false → CannotCome unseen self.old AdvanceFailed }
         ensures board { self.new.platform.board ≡ self.old.platform.board }
     {
-        if !self.can_refuse(refuses) {
+        if !self.can_refuse(unseen) {
             return false;
         }
         self.platform.advance_failed()
@@ -132,10 +134,10 @@ impl Guess {
 
     /// Posts the first message for an agent into its channel; `false` if it can't be posted.
     fn post(&mut self, agent: u32) -> bool
-        ensures goes { result ≡ true → (refuses : Refused)
-            → GoesOn refuses self.old (Sent agent) self.new }
-        ensures cannot { result ≡ false → (refuses : Refused)
-            → CannotCome refuses self.old (Sent agent) }
+        ensures goes { result ≡ true → (may : Hidden)
+            → GoesOn may self.old (Sent agent) self.new }
+        ensures cannot { result ≡ false → (may : Hidden)
+            → CannotCome may self.old (Sent agent) }
         ensures board { self.new.platform.board ≡ self.old.platform.board }
     {
         if !self.can_post(agent) {
@@ -151,12 +153,27 @@ impl Guess {
         true
     }
 
+    /// An agent restarts; `false` if it can't, and then nothing changed.
+    fn restart(&mut self, agent: u32, unseen: Unseen) -> bool
+        ensures goes { result ≡ true → GoesOn unseen self.old (Restarted agent) self.new }
+        ensures cannot { result ≡ false → CannotCome unseen self.old (Restarted agent) }
+        ensures board { self.new.platform.board ≡ self.old.platform.board }
+    {
+        if !unseen.restarts {
+            return false;
+        }
+        let Ok(()) = self.platform.restart(agent) else {
+            return false;
+        };
+        true
+    }
+
     /// What the platform is after an entry; `false` if it does not give the entry, and then it may
     /// be any of this board.
     pub fn show(&mut self, entry: &Entry) -> bool
-        ensures gives { result ≡ true → (refuses : Refused)
-            → Gives refuses self.old entry.now self.new }
-        ensures not { result ≡ false → (refuses : Refused) → GivesNot refuses self.old entry.now }
+        ensures gives { result ≡ true → (may : Hidden)
+            → Gives may self.old entry.now self.new }
+        ensures not { result ≡ false → (may : Hidden) → GivesNot may self.old entry.now }
         ensures board { self.new.platform.board ≡ self.old.platform.board }
     {
         match entry {
@@ -171,10 +188,10 @@ impl Guess {
 
     /// The same of an answer.
     fn answer(&mut self, agent: u32, frame: &Frame, answer: &Answer) -> bool
-        ensures gives { result ≡ true → (refuses : Refused)
-            → Gives refuses self.old (entry.Answered agent frame.now answer.now) self.new }
-        ensures not { result ≡ false → (refuses : Refused)
-            → GivesNot refuses self.old (entry.Answered agent frame.now answer.now) }
+        ensures gives { result ≡ true → (may : Hidden)
+            → Gives may self.old (entry.Answered agent frame.now answer.now) self.new }
+        ensures not { result ≡ false → (may : Hidden)
+            → GivesNot may self.old (entry.Answered agent frame.now answer.now) }
         ensures board { self.new.platform.board ≡ self.old.platform.board }
     {
         if !self.has_agent(agent) {
@@ -196,10 +213,10 @@ impl Guess {
         requires done { (h : List Event) → StandsAfter self.old.platform h
             → effect_after self.old.platform.board h (Command agent frame.now) ≢ None
             → answer.now ≢ failed_answer frame.now }
-        ensures gives { result ≡ true → (refuses : Refused)
-            → Gives refuses self.old (entry.Answered agent frame.now answer.now) self.new }
-        ensures not { result ≡ false → (refuses : Refused)
-            → GivesNot refuses self.old (entry.Answered agent frame.now answer.now) }
+        ensures gives { result ≡ true → (may : Hidden)
+            → Gives may self.old (entry.Answered agent frame.now answer.now) self.new }
+        ensures not { result ≡ false → (may : Hidden)
+            → GivesNot may self.old (entry.Answered agent frame.now answer.now) }
         ensures board { self.new.platform.board ≡ self.old.platform.board }
     {
         let mut reply = Message::default();
@@ -212,10 +229,10 @@ impl Guess {
 
     /// The same of a message.
     fn take(&mut self, agent: u32, message: &Message) -> bool
-        ensures gives { result ≡ true → (refuses : Refused)
-            → Gives refuses self.old (entry.Delivered agent message.now) self.new }
-        ensures not { result ≡ false → (refuses : Refused)
-            → GivesNot refuses self.old (entry.Delivered agent message.now) }
+        ensures gives { result ≡ true → (may : Hidden)
+            → Gives may self.old (entry.Delivered agent message.now) self.new }
+        ensures not { result ≡ false → (may : Hidden)
+            → GivesNot may self.old (entry.Delivered agent message.now) }
         ensures board { self.new.platform.board ≡ self.old.platform.board }
     {
         if !self.has_agent(agent) || !self.has_posted(agent, message) {

@@ -4,12 +4,13 @@ ghost use Rattle.scmi_judge.specs.Exact.{AreClosed, HaveGiven, HaveGrown, HaveKe
 ghost use Rattle.scmi_judge.specs.Guesses.{AreDifferent, AreFound, AreOfBoard, FindsMany, HaveBoard, IsGiven, IsIn, KeepBoard, StayFound, all_places, places};
 ghost use Rattle.scmi_judge.specs.declared.entry.Entry.{Entry as Shown};
 ghost use Rattle.scmi_judge.specs.Unseen.{event_of};
+ghost use Rattle.scmi_core.specs.declared.event.Event.TheVariants.{Restarted, Sent};
 ghost use Rattle.scmi_plan.specs.Board.{Board};
 
 use crate::entry::Entry;
 use crate::guess::Guess;
 use crate::stop::Stop;
-use crate::unseen::{Refusals, Step};
+use crate::unseen::{Step, Unseen};
 use std::mem;
 
 /// Guesses of one board, in places that are there from the start.
@@ -26,8 +27,8 @@ pub(crate) struct Guesses {
     pub spare: Vec<Guess>,
     // The place of the one that is being made.
     pub made: Guess,
-    // Which changes the hardware may refuse.
-    pub refuses: Refusals,
+    // What may happen that no entry shows.
+    pub unseen: Unseen,
 }
 
 impl Guesses {
@@ -36,17 +37,17 @@ impl Guesses {
         requires boards { HaveBoard self.old }
         requires none { self.old.tried.items ≡ [] }
         ensures kept { OnOk result
-            (HaveKept self.old.refuses self.old.left.items self.new.tried.items) }
-        ensures closed { OnOk result (AreClosed self.old.refuses self.new.tried.items) }
+            (HaveKept self.old.unseen self.old.left.items self.new.tried.items) }
+        ensures closed { OnOk result (AreClosed self.old.unseen self.new.tried.items) }
         ensures left { OnOk result (self.new.left.items ≡ []) }
         ensures found { (board : Board) (entries : List Shown)
-            → AreFound self.old.refuses board entries [] self.old.left.items
-            → OnOk result (AreFound self.old.refuses board entries self.new.tried.items []) }
+            → AreFound self.old.unseen board entries [] self.old.left.items
+            → OnOk result (AreFound self.old.unseen board entries self.new.tried.items []) }
         ensures places { OnOk result (places self.new ≡ places self.old) }
         ensures keeps { KeepBoard self.old self.new }
         ensures others { self.new.others ≡ self.old.others }
         ensures full { IfErr result (λ stop. stop ≡ Stop.Full
-            → FindsMany self.old.refuses [] self.old.left.items (1 + places self.old)) }
+            → FindsMany self.old.unseen [] self.old.left.items (1 + places self.old)) }
     {
         'each: while let Some(guess) = self.left.pop() {
             self.try_steps(&guess)?;
@@ -61,23 +62,24 @@ impl Guesses {
     fn try_steps(&mut self, guess: &Guess) -> Result<(), Stop>
         requires boards { (board : Board) × AreOfBoard board self.old
             × (guess.now.platform.board ≡ board) }
-        ensures whole { OnOk result (IsTriedWhole self.old.refuses guess.now
-            (self.old.tried.items ++ self.new.left.items)) }
+        ensures whole { OnOk result (IsTriedWhole self.old.unseen guess.now
+            ((self.old.tried.items ++ guess.now ∷ []) ++ self.new.left.items)) }
         ensures grown { OnOk result
-            (HaveGrown self.old.refuses guess.now self.old.left.items self.new.left.items) }
-        ensures found { OnOk result (StayFound self.old.refuses guess.now
+            (HaveGrown self.old.unseen guess.now self.old.left.items self.new.left.items) }
+        ensures found { OnOk result (StayFound self.old.unseen guess.now
             self.old.tried.items self.old.left.items self.new.left.items) }
         ensures places { OnOk result (places self.new ≡ places self.old) }
         ensures keeps { KeepBoard self.old self.new }
         ensures tried { self.new.tried ≡ self.old.tried }
         ensures others { self.new.others ≡ self.old.others }
         ensures full { IfErr result (λ stop. stop ≡ Stop.Full
-            → FindsMany self.old.refuses (self.old.tried.items ++ guess.now ∷ [])
+            → FindsMany self.old.unseen (self.old.tried.items ++ guess.now ∷ [])
             self.old.left.items (2 + places self.old)) }
     {
         self.try_step(guess, Step::Complete)?;
         self.try_step(guess, Step::Refuse)?;
         self.try_postings(guess)?;
+        self.try_restarts(guess)?;
         Ok(())
     }
 
@@ -85,18 +87,18 @@ impl Guesses {
     fn try_postings(&mut self, guess: &Guess) -> Result<(), Stop>
         requires boards { (board : Board) × AreOfBoard board self.old
             × (guess.now.platform.board ≡ board) }
-        ensures posts { OnOk result (IsTriedAbove self.old.refuses guess.now 0
-            (self.old.tried.items ++ self.new.left.items)) }
+        ensures posts { OnOk result (IsTriedAbove self.old.unseen guess.now Sent 0
+            ((self.old.tried.items ++ guess.now ∷ []) ++ self.new.left.items)) }
         ensures grown { OnOk result
-            (HaveGrown self.old.refuses guess.now self.old.left.items self.new.left.items) }
-        ensures found { OnOk result (StayFound self.old.refuses guess.now
+            (HaveGrown self.old.unseen guess.now self.old.left.items self.new.left.items) }
+        ensures found { OnOk result (StayFound self.old.unseen guess.now
             self.old.tried.items self.old.left.items self.new.left.items) }
         ensures places { OnOk result (places self.new ≡ places self.old) }
         ensures keeps { KeepBoard self.old self.new }
         ensures tried { self.new.tried ≡ self.old.tried }
         ensures others { self.new.others ≡ self.old.others }
         ensures full { IfErr result (λ stop. stop ≡ Stop.Full
-            → FindsMany self.old.refuses (self.old.tried.items ++ guess.now ∷ [])
+            → FindsMany self.old.unseen (self.old.tried.items ++ guess.now ∷ [])
             self.old.left.items (2 + places self.old)) }
     {
         let mut agent = guess.platform.agents();
@@ -107,29 +109,61 @@ impl Guesses {
         Ok(())
     }
 
-    /// Tries a step from a guess. What it moves on to is left, unless it was there before.
-    fn try_step(&mut self, guess: &Guess, step: Step) -> Result<(), Stop>
+    /// Tries to restart each agent, if agents may.
+    fn try_restarts(&mut self, guess: &Guess) -> Result<(), Stop>
         requires boards { (board : Board) × AreOfBoard board self.old
             × (guess.now.platform.board ≡ board) }
-        ensures moves { OnOk result (IsTried self.old.refuses guess.now (event_of step)
-            (self.old.tried.items ++ self.new.left.items)) }
+        ensures restarts { OnOk result (IsTriedAbove self.old.unseen guess.now Restarted 0
+            ((self.old.tried.items ++ guess.now ∷ []) ++ self.new.left.items)) }
         ensures grown { OnOk result
-            (HaveGrown self.old.refuses guess.now self.old.left.items self.new.left.items) }
-        ensures found { OnOk result (StayFound self.old.refuses guess.now
+            (HaveGrown self.old.unseen guess.now self.old.left.items self.new.left.items) }
+        ensures found { OnOk result (StayFound self.old.unseen guess.now
             self.old.tried.items self.old.left.items self.new.left.items) }
         ensures places { OnOk result (places self.new ≡ places self.old) }
         ensures keeps { KeepBoard self.old self.new }
         ensures tried { self.new.tried ≡ self.old.tried }
         ensures others { self.new.others ≡ self.old.others }
         ensures full { IfErr result (λ stop. stop ≡ Stop.Full
-            → FindsMany self.old.refuses (self.old.tried.items ++ guess.now ∷ [])
+            → FindsMany self.old.unseen (self.old.tried.items ++ guess.now ∷ [])
             self.old.left.items (2 + places self.old)) }
     {
-        if !guess.can_come(step, self.refuses) {
+        if !self.unseen.restarts {
+            return Ok(());
+        }
+        let mut agent = guess.platform.agents();
+        'agents: while agent > 0 {
+            self.try_step(guess, Step::Restart { agent })?;
+            agent -= 1;
+        }
+        Ok(())
+    }
+
+    /// Tries a step from a guess. What it moves on to is left, unless it was there before.
+    fn try_step(&mut self, guess: &Guess, step: Step) -> Result<(), Stop>
+        requires boards { (board : Board) × AreOfBoard board self.old
+            × (guess.now.platform.board ≡ board) }
+        ensures moves { OnOk result (IsTried self.old.unseen guess.now (event_of step)
+            ((self.old.tried.items ++ guess.now ∷ []) ++ self.new.left.items)) }
+        ensures grown { OnOk result
+            (HaveGrown self.old.unseen guess.now self.old.left.items self.new.left.items) }
+        ensures found { OnOk result (StayFound self.old.unseen guess.now
+            self.old.tried.items self.old.left.items self.new.left.items) }
+        ensures places { OnOk result (places self.new ≡ places self.old) }
+        ensures keeps { KeepBoard self.old self.new }
+        ensures tried { self.new.tried ≡ self.old.tried }
+        ensures others { self.new.others ≡ self.old.others }
+        ensures full { IfErr result (λ stop. stop ≡ Stop.Full
+            → FindsMany self.old.unseen (self.old.tried.items ++ guess.now ∷ [])
+            self.old.left.items (2 + places self.old)) }
+    {
+        if !guess.can_come(step, self.unseen) {
             return Ok(());
         }
         self.made.copy_from(guess);
-        if !self.made.make(step, self.refuses) {
+        if !self.made.make(step, self.unseen) {
+            return Ok(());
+        }
+        if self.made.is_same(guess) {
             return Ok(());
         }
         if has(&self.tried, &self.made) {
@@ -183,7 +217,7 @@ impl Guesses {
         requires boards { HaveBoard self.old }
         requires none { self.old.left.items ≡ [] }
         ensures given { OnOk result
-            (HaveGiven self.old.refuses self.old.tried.items entry.now self.new.left.items) }
+            (HaveGiven self.old.unseen self.old.tried.items entry.now self.new.left.items) }
         ensures apart { OnOk result (self.new.left.items ≡ [] → self.new.others.items
             ≡ self.old.others.items ++ reverse self.old.tried.items) }
         ensures different { OnOk result (AreDifferent self.new.left.items) }
@@ -202,7 +236,7 @@ impl Guesses {
     fn give_by(&mut self, guess: Guess, entry: &Entry) -> Result<(), Stop>
         requires boards { (board : Board) × AreOfBoard board self.old
             × (guess.platform.board ≡ board) }
-        ensures given { OnOk result (IsGiven self.old.refuses guess entry.now
+        ensures given { OnOk result (IsGiven self.old.unseen guess entry.now
             self.old.left.items self.new.left.items) }
         ensures apart { OnOk result (self.new.left.items ≡ [] → (self.old.left.items ≡ [])
             × (self.new.others.items ≡ self.old.others.items ++ guess ∷ [])) }

@@ -10,7 +10,7 @@ use crate::entry::Entry;
 use crate::guess::Guess;
 use crate::guesses::Guesses;
 use crate::stop::Stop;
-use crate::unseen::Refusals;
+use crate::unseen::Unseen;
 use crate::verdict::Verdict;
 use scmi_core::CoreError;
 use scmi_plan::Plan;
@@ -18,7 +18,7 @@ use std::alloc::Global;
 use std::marker::Model;
 
 /// A judge of a platform of a board, by all platforms that may be behind the entries so far.
-/// Contracts see the board, which changes its hardware may refuse, those platforms, the places for
+/// Contracts see the board, what may happen that no entry shows, those platforms, the places for
 /// more, and whether it still judges.
 #[derive(Drop, Debug)]
 pub struct Judge {
@@ -35,7 +35,7 @@ impl Model for Judge {
 
     ghost view = { λ j. record {
       board = j.guesses.made.platform.board;
-      refuses = j.guesses.refuses;
+      unseen = j.guesses.unseen;
       guesses = j.guesses.left.items;
       spare = j.guesses.spare.items;
       sure = j.sure;
@@ -46,19 +46,14 @@ impl Model for Judge {
 
 impl Judge {
     /// A judge of a platform of a board, before the first entry. It needs a plan of the same board
-    /// for a place in which it makes others. `refuses` is which changes the hardware may refuse.
+    /// for a place in which it makes others. `unseen` is what may happen that no entry shows.
     /// `Memory` is the only error.
-    pub fn new(
-        alloc: Global,
-        plan: Plan,
-        place: Plan,
-        refuses: Refusals,
-    ) -> Result<Judge, CoreError>
+    pub fn new(alloc: Global, plan: Plan, place: Plan, unseen: Unseen) -> Result<Judge, CoreError>
         requires { place ≡ plan }
         ensures places { IfOk result (λ judge. length judge.guesses + length judge.spare ≡ 1) }
         ensures start { IfOk result (λ judge. Knows judge []) }
         ensures board { IfOk result (λ judge. judge.board ≡ plan) }
-        ensures refuses { IfOk result (λ judge. judge.refuses ≡ refuses) }
+        ensures unseen { IfOk result (λ judge. judge.unseen ≡ unseen) }
         ensures errors { IfErr result (λ e. e ≡ CoreError.Memory) }
     {
         let mut left = Vec::new(alloc);
@@ -71,7 +66,7 @@ impl Judge {
             others: Vec::new(alloc),
             spare: Vec::new(alloc),
             made: Guess::new(place),
-            refuses,
+            unseen,
         };
         Ok(Judge {
             guesses,
@@ -84,7 +79,7 @@ impl Judge {
         requires { place ≡ self.old.board }
         ensures knows { (entries : List Shown) → Knows self.old entries → Knows self.new entries }
         ensures board { self.new.board ≡ self.old.board }
-        ensures refuses { self.new.refuses ≡ self.old.refuses }
+        ensures unseen { self.new.unseen ≡ self.old.unseen }
         ensures place { OnOk result (length self.new.guesses + length self.new.spare
             ≡ 1 + (length self.old.guesses + length self.old.spare)) }
         ensures errors { IfErr result (λ e. e ≡ CoreError.Memory) }
@@ -105,10 +100,10 @@ impl Judge {
     pub fn judge(&mut self, entry: &Entry) -> Result<Option<Verdict>, CoreError>
         ensures same { (entries : List Shown) → Knows self.old entries
             → IfOk result (λ o. IfSome o (λ verdict. verdict ≡ Same
-            → HasLegalHistory self.old.refuses self.old.board (entry.now ∷ entries))) }
+            → HasLegalHistory self.old.unseen self.old.board (entry.now ∷ entries))) }
         ensures differs { (entries : List Shown) → Knows self.old entries
             → IfOk result (λ o. IfSome o (λ verdict. verdict ≢ Same
-            → ¬ (HasLegalHistory self.old.refuses self.old.board (entry.now ∷ entries)))) }
+            → ¬ (HasLegalHistory self.old.unseen self.old.board (entry.now ∷ entries)))) }
         ensures knows { (entries : List Shown) → Knows self.old entries
             → IfOk result (λ o. IfSome o (λ verdict. verdict ≡ Same
             → Knows self.new (entry.now ∷ entries))) }
@@ -117,7 +112,7 @@ impl Judge {
             → Knows self.new entries)) }
         ensures due { (entries : List Shown) → Knows self.old entries
             → IfOk result (λ o. IfSome o (λ verdict. IsDue verdict entry.now
-            (λ due. HasLegalHistory self.old.refuses self.old.board (due ∷ entries)))) }
+            (λ due. HasLegalHistory self.old.unseen self.old.board (due ∷ entries)))) }
         ensures unsure { (entries : List Shown) → Knows self.old entries
             → result ≡ Ok None → AreTooMany self.old entries }
         ensures sure { IfOk result (λ o. IfSome o (λ verdict. self.new.sure ≡ true)) }
@@ -126,7 +121,7 @@ impl Judge {
             ≡ length self.old.guesses + length self.old.spare)) }
         ensures ended { self.old.sure ≡ false → result ≡ Ok None }
         ensures board { self.new.board ≡ self.old.board }
-        ensures refuses { self.new.refuses ≡ self.old.refuses }
+        ensures unseen { self.new.unseen ≡ self.old.unseen }
         ensures errors { IfErr result (λ e. e ≡ CoreError.Memory) }
     {
         if !self.sure {
@@ -149,7 +144,7 @@ impl Judge {
         ensures places { OnOk result (length self.new.guesses + length self.new.spare
             ≡ length self.old.guesses + length self.old.spare) }
         ensures board { self.new.board ≡ self.old.board }
-        ensures refuses { self.new.refuses ≡ self.old.refuses }
+        ensures unseen { self.new.unseen ≡ self.old.unseen }
         ensures errors { IfErr result (λ e. e ≡ CoreError.Memory) }
     {
         if !self.sure {

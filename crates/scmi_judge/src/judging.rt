@@ -21,31 +21,31 @@ impl Guesses {
         requires tried { self.old.tried.items ≡ [] }
         requires others { self.old.others.items ≡ [] }
         ensures exact { (board : Board) (entries : List Shown)
-            → AreExact self.old.refuses board entries self.old.left.items
+            → AreExact self.old.unseen board entries self.old.left.items
             → IfOk result (λ verdict. verdict ≡ Same
-            → AreExact self.old.refuses board (entry.now ∷ entries) self.new.left.items) }
+            → AreExact self.old.unseen board (entry.now ∷ entries) self.new.left.items) }
         ensures different { IfOk result (λ verdict. verdict ≡ Same
             → AreDifferent self.new.left.items) }
         ensures some { IfOk result (λ verdict. verdict ≡ Same → self.new.left.items ≢ []) }
         ensures lost { (board : Board) (entries : List Shown)
-            → AreExact self.old.refuses board entries self.old.left.items
+            → AreExact self.old.unseen board entries self.old.left.items
             → IfOk result (λ verdict. verdict ≢ Same
-            → AreExact self.old.refuses board (entry.now ∷ entries) []) }
+            → AreExact self.old.unseen board (entry.now ∷ entries) []) }
         ensures stays { (board : Board) (entries : List Shown)
-            → AreExact self.old.refuses board entries self.old.left.items
+            → AreExact self.old.unseen board entries self.old.left.items
             → AreDifferent self.old.left.items → IfOk result (λ verdict. verdict ≢ Same
-            → AreExact self.old.refuses board entries self.new.left.items
+            → AreExact self.old.unseen board entries self.new.left.items
             × AreDifferent self.new.left.items) }
         ensures due { (board : Board) (entries : List Shown)
-            → AreExact self.old.refuses board entries self.old.left.items
+            → AreExact self.old.unseen board entries self.old.left.items
             → IfOk result (λ verdict. IsDue verdict entry.now
-            (λ due. HasLegalHistory self.old.refuses board (due ∷ entries))) }
+            (λ due. HasLegalHistory self.old.unseen board (due ∷ entries))) }
         ensures tried { OnOk result (self.new.tried.items ≡ []) }
         ensures others { OnOk result (self.new.others.items ≡ []) }
         ensures places { OnOk result (places self.new ≡ places self.old) }
         ensures keeps { KeepBoard self.old self.new }
         ensures full { IfErr result (λ stop. stop ≡ Stop.Full
-            → FindsMany self.old.refuses [] self.old.left.items (1 + places self.old)) }
+            → FindsMany self.old.unseen [] self.old.left.items (1 + places self.old)) }
     {
         self.close()?;
         self.give(entry)?;

@@ -27,5 +27,5 @@ pub use exact_sets::every_exact_set;
 pub use judge::Judge;
 pub use records::every_record;
 pub use shown::{has_succeeded, sets_value};
-pub use unseen::Refusals;
+pub use unseen::{NOTHING_UNSEEN, Refusals, Unseen};
 pub use verdict::Verdict;

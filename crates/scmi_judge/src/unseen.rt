@@ -9,7 +9,25 @@ pub(crate) enum Step {
     Refuse,
     /// The first message for an agent is posted into its channel.
     Post { agent: u32 },
+    /// An agent restarts.
+    Restart { agent: u32 },
 }
+
+/// What may happen to a platform that no entry of a record shows by itself, beside pending sets
+/// that complete and messages that are posted.
+#[derive(Clone, Copy, PartialEq, Eq, Debug)]
+pub struct Unseen {
+    /// Which changes of pending sets the hardware may refuse.
+    pub refusals: Refusals,
+    /// Whether agents may restart.
+    pub restarts: bool,
+}
+
+/// The hardware refuses no change, and no agent restarts: the default.
+pub const NOTHING_UNSEEN: Unseen = Unseen {
+    refusals: Refusals::None,
+    restarts: false,
+};
 
 /// Which changes of pending sets the hardware may refuse, so that no entry need show it by itself.
 #[derive(Clone, Copy, PartialEq, Eq, Debug)]

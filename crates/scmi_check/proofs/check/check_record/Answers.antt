@@ -7,12 +7,12 @@ pub returns-clause-checked : goal.returns-clause-checked
 returns-clause-checked g c =
     let plan = c.in_ok-text.field-0.plan in
     let options = c.args.options in
-    let way = c.new-check.ensures options.refusals plan c.in_ok-judge.ensures.knows
-    c.in_ok-judge.ensures.board c.in_ok-judge.ensures.refuses c.in_ok-judge.ensures.places
+    let way = c.new-check.ensures options.unseen plan c.in_ok-judge.ensures.knows
+    c.in_ok-judge.ensures.board c.in_ok-judge.ensures.unseen c.in_ok-judge.ensures.places
     c.agents.ensures.count in
     let of_board : IfSome (g.B.Read.remaining c.args.board.now) (λ text. IsPlanText text plan) =
     search rules in
-    if-ok c.check_lines.result (c.check_lines.ensures.found options.protocols.now options.refusals
+    if-ok c.check_lines.result (c.check_lines.ensures.found options.protocols.now options.unseen
     plan way) (λ checked found. record {
       judged = found.judged;
       notes = found.notes;
@@ -31,34 +31,34 @@ pub returns-clause-faults : goal.returns-clause-faults
 returns-clause-faults g c =
     let plan = c.in_ok-text.field-0.plan in
     let options = c.args.options in
-    let way = c.new-check.ensures options.refusals plan c.in_ok-judge.ensures.knows
-    c.in_ok-judge.ensures.board c.in_ok-judge.ensures.refuses c.in_ok-judge.ensures.places
+    let way = c.new-check.ensures options.unseen plan c.in_ok-judge.ensures.knows
+    c.in_ok-judge.ensures.board c.in_ok-judge.ensures.unseen c.in_ok-judge.ensures.places
     c.agents.ensures.count in
     let of_board : IfSome (g.B.Read.remaining c.args.board.now) (λ text. IsPlanText text plan) =
     search rules in
-    if-err c.check_lines.result (c.check_lines.ensures.faults options.protocols.now options.refusals
+    if-err c.check_lines.result (c.check_lines.ensures.faults options.protocols.now options.unseen
     plan way) (λ e fault. inr (plan, of_board, fault))
 
 pub returns-clause-alone : goal.returns-clause-alone
 returns-clause-alone g c =
     let plan = c.in_ok-text.field-0.plan in
     let options = c.args.options in
-    let way = c.new-check.ensures options.refusals plan c.in_ok-judge.ensures.knows
-    c.in_ok-judge.ensures.board c.in_ok-judge.ensures.refuses c.in_ok-judge.ensures.places
+    let way = c.new-check.ensures options.unseen plan c.in_ok-judge.ensures.knows
+    c.in_ok-judge.ensures.board c.in_ok-judge.ensures.unseen c.in_ok-judge.ensures.places
     c.agents.ensures.count in
     if-err c.check_lines.result
-    (c.check_lines.ensures.alone options.protocols.now options.refusals plan way)
+    (c.check_lines.ensures.alone options.protocols.now options.unseen plan way)
     (λ e not of. absurd (not of))
 
 pub returns-clause-before : goal.returns-clause-before
 returns-clause-before g c =
     let plan = c.in_ok-text.field-0.plan in
     let options = c.args.options in
-    let way = c.new-check.ensures options.refusals plan c.in_ok-judge.ensures.knows
-    c.in_ok-judge.ensures.board c.in_ok-judge.ensures.refuses c.in_ok-judge.ensures.places
+    let way = c.new-check.ensures options.unseen plan c.in_ok-judge.ensures.knows
+    c.in_ok-judge.ensures.board c.in_ok-judge.ensures.unseen c.in_ok-judge.ensures.places
     c.agents.ensures.count in
     let of_board : IfSome (g.B.Read.remaining c.args.board.now) (λ text. IsPlanText text plan) =
     search rules in
     if-err c.check_lines.result
-    (c.check_lines.ensures.before options.protocols.now options.refusals plan way)
+    (c.check_lines.ensures.before options.protocols.now options.unseen plan way)
     (λ e found at. record { board = plan; of_board = of_board; found = found at })

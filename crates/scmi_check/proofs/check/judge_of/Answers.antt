@@ -6,7 +6,7 @@ places-preserved c =
     let before = c.places.invariant in
     record {
       board = c.add_place.ensures.board ∙ before.board;
-      refuses = c.add_place.ensures.refuses ∙ before.refuses;
+      unseen = c.add_place.ensures.unseen ∙ before.unseen;
       knows = c.add_place.ensures.knows [] before.knows;
       places = let one = c.in_ok-add_place.ensures.place in let so_far = before.places in omega (arith, one, so_far);
     }

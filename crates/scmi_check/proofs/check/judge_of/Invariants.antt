@@ -6,7 +6,7 @@ abbrev pub invariant-places : goal.invariant-places
 invariant-places l =
     record {
       board : l.judge.board ≡ l.plan;
-      refuses : l.judge.refuses ≡ l.fn.refuses;
+      unseen : l.judge.unseen ≡ l.fn.unseen;
       knows : Knows l.judge [];
       places : length l.judge.guesses + length l.judge.spare ≡ 1 + l._place;
     }

@@ -30,7 +30,7 @@ returns-in_default-clause-judged g c = λ r b before judged empty being.
       are = subst (λ js. AreBeingJudged r b (before ++ one ∷ []) js new) (sym (append-none judged))
           (now-unsure r b before judged one (at_entry old empty) new being c.requires.sure
           (λ entries knows. c.in_ok-verdict.ensures.many entries knows (ap Ok none))
-          c.judge_one.ensures.board c.judge_one.ensures.refuses refl refl c.requires.some);
+          c.judge_one.ensures.board c.judge_one.ensures.unseen refl refl c.requires.some);
       given = grows-none (g.L.Listener.judged c.args.listener.now);
     }
 
@@ -51,11 +51,11 @@ returns-clause-judged g c = λ r b before judged empty being.
     (c.in_ok-verdict.ensures.fits entries knows) in
     let legal = λ (entries : _) (knows : Knows old.judge entries).
     subst (λ o. IfSome o (λ w. Fits (finding_of one.entry w)
-    → HasLegalHistory old.judge.refuses old.judge.board (judged_as one.entry w ∷ entries)))
+    → HasLegalHistory old.judge.unseen old.judge.board (judged_as one.entry w ∷ entries)))
     c.in-Some.is (c.in_ok-verdict.ensures.legal entries knows) in
     let differs = λ (entries : _) (knows : Knows old.judge entries).
     subst (λ o. IfSome o (λ w. ¬ (Fits (finding_of one.entry w))
-    → ¬ (HasLegalHistory old.judge.refuses old.judge.board (one.entry ∷ entries)))) c.in-Some.is
+    → ¬ (HasLegalHistory old.judge.unseen old.judge.board (one.entry ∷ entries)))) c.in-Some.is
     (c.in_ok-verdict.ensures.differs entries knows) in
     let places = subst (λ o. IfSome o (λ w. length c.judge_one.new.judge.guesses + length
     c.judge_one.new.judge.spare ≡ length old.judge.guesses + length old.judge.spare))
@@ -69,7 +69,7 @@ returns-clause-judged g c = λ r b before judged empty being.
     on-ok c.found.result c.found.ensures.judged (λ given. record {
       more = record { line = one.line; entry = one.entry; verdict = v } ∷ [];
       are = now-judged r b before judged one (at_entry old empty) new being c.requires.sure v fits
-          legal differs places c.judge_one.ensures.board c.judge_one.ensures.refuses c.requires.sure
+          legal differs places c.judge_one.ensures.board c.judge_one.ensures.unseen c.requires.sure
           any c.requires.some;
       given = subst (λ (e : Entry). Grows (g.L.Listener.judged c.args.listener.now)
           (g.L.Listener.judged c.found.new.self)

@@ -3,6 +3,6 @@ use Rattle.scmi_check.proofs.Progressing.{being-none}
 use Rattle.scmi_check.proofs.progress.Progress.new.Goals as goal
 
 pub returns : goal.returns
-returns c = λ r b knows board refuses places. being-none r b
+returns c = λ r b knows board may places. being-none r b
     (record { judge = c.args.judge; is_empty = true; differs = false; unsure = None }) knows board
-    refuses places refl refl refl
+    may places refl refl refl

@@ -15,14 +15,14 @@ changes c h stands none =
     absurd (cc)
 
 pub returns-in-Ok-clause-gives : goal.returns-in-Ok-clause-gives
-returns-in-Ok-clause-gives c went refuses =
-    gives-failed refuses c.args.self.now _ c.args.agent c.args.frame.now c.args.answer.now c.in-Ok.ensures.event refl refl
+returns-in-Ok-clause-gives c went may =
+    gives-failed may c.args.self.now _ c.args.agent c.args.frame.now c.args.answer.now c.in-Ok.ensures.event refl refl
     (sym (c.is_same_answer.ensures.same.0 went) ∙ c.in-Ok.ensures.answer)
     (λ h stands. failed-not-done c.args.self.now.platform.board h c.args.agent c.args.frame.now c.args.answer.now (changes c h stands) (search rules))
 
 pub returns-in-Ok-clause-not : goal.returns-in-Ok-clause-not
-returns-in-Ok-clause-not c not refuses =
-    other-answer refuses c.args.self.now c.args.agent c.args.frame.now c.args.answer.now
+returns-in-Ok-clause-not c not may =
+    other-answer may c.args.self.now c.args.agent c.args.frame.now c.args.answer.now
     (λ h stands. failed-not-done c.args.self.now.platform.board h c.args.agent c.args.frame.now c.args.answer.now (changes c h stands) (search rules))
     (λ h stands some is.
     absurd (let same : c.is_same_answer.result ≡ true = c.is_same_answer.ensures.same.1 (c.in-Ok.ensures.answer ∙ sym is) in let no : true ≡ false = sym same ∙ not in cc))

@@ -24,7 +24,7 @@ returns-in_err-try_steps-clause-keeps c =
           let before = c.each.invariant.keeps.boards board of in
           let both = of-popped board _ _ c.in-Some.guess c.in-Some.ensures.items before.left in
           c.try_steps.ensures.keeps.boards board (record { left = both.0; tried = before.tried; others = before.others; spare = before.spare; made = before.made });
-      refuses = c.try_steps.ensures.keeps.refuses ∙ c.each.invariant.keeps.refuses;
+      unseen = c.try_steps.ensures.keeps.unseen ∙ c.each.invariant.keeps.unseen;
     }
 
 pub returns-in_default-push-clause-keeps : goal.returns-in_default-push-clause-keeps
@@ -35,7 +35,7 @@ returns-in_default-push-clause-keeps c =
           let before = c.each.invariant.keeps.boards board of in
           let both = of-popped board _ _ c.in-Some.guess c.in-Some.ensures.items before.left in
           c.try_steps.ensures.keeps.boards board (record { left = both.0; tried = before.tried; others = before.others; spare = before.spare; made = before.made });
-      refuses = c.try_steps.ensures.keeps.refuses ∙ c.each.invariant.keeps.refuses;
+      unseen = c.try_steps.ensures.keeps.unseen ∙ c.each.invariant.keeps.unseen;
     } in
     record {
       boards = λ board of.
@@ -49,7 +49,7 @@ returns-in_default-push-clause-keeps c =
             made = after.made;
             tried = of-pushed board _ _ c.in-Some.guess (is_ok c.push.result) c.push.ensures.items after.tried both.1;
           };
-      refuses = from.refuses;
+      unseen = from.unseen;
     }
 
 pub each-preserved : goal.each-preserved
@@ -60,9 +60,9 @@ each-preserved c =
           let before = c.each.invariant.keeps.boards board of in
           let both = of-popped board _ _ c.in-Some.guess c.in-Some.ensures.items before.left in
           c.try_steps.ensures.keeps.boards board (record { left = both.0; tried = before.tried; others = before.others; spare = before.spare; made = before.made });
-      refuses = c.try_steps.ensures.keeps.refuses ∙ c.each.invariant.keeps.refuses;
+      unseen = c.try_steps.ensures.keeps.unseen ∙ c.each.invariant.keeps.unseen;
     } in
-    let r = c.args.self.now.refuses in
+    let r = c.args.self.now.unseen in
     let g = c.in-Some.guess in
     let guesses = c.args.self.now.left.items in
     let all = c.each.self.tried.items in
@@ -72,8 +72,8 @@ each-preserved c =
     let before = c.each.invariant in
     let are = c.in-Some.ensures.items in
     let pushed : c.push.new.self.items ≡ all ++ g ∷ [] = c.in-Ok.ensures.items ∙ ap (λ v. v.items ++ g ∷ []) c.try_steps.ensures.tried in
-    let grown = subst (λ x. HaveGrown x g rest new) before.keeps.refuses c.in_ok-try_steps.ensures.grown in
-    let whole = subst (λ x. IsTriedWhole x g (all ++ new)) before.keeps.refuses c.in_ok-try_steps.ensures.whole in
+    let grown = subst (λ x. HaveGrown x g rest new) before.keeps.unseen c.in_ok-try_steps.ensures.grown in
+    let whole = subst (λ x. IsTriedWhole x g ((all ++ g ∷ []) ++ new)) before.keeps.unseen c.in_ok-try_steps.ensures.whole in
     record {
       keeps = record {
         boards = λ board of.
@@ -86,7 +86,7 @@ each-preserved c =
               made = after.made;
               tried = of-pushed board _ _ g (is_ok c.push.result) c.push.ensures.items after.tried both.1;
             };
-        refuses = from.refuses;
+        unseen = from.unseen;
       };
       others = c.try_steps.ensures.others ∙ before.others;
       places =
@@ -98,7 +98,7 @@ each-preserved c =
           omega (arith, popped, more, so_far, same, tried);
       found = λ board entries found.
           subst (λ xs. AreFound r board entries xs new) (sym pushed)
-          (subst (λ x. StayFound x g all rest new) before.keeps.refuses c.in_ok-try_steps.ensures.found board entries (found-moved r board entries all untried rest g are (before.found board entries found)));
+          (subst (λ x. StayFound x g all rest new) before.keeps.unseen c.in_ok-try_steps.ensures.found board entries (found-moved r board entries all untried rest g are (before.found board entries found)));
       kept = subst (λ xs. IsKept r guesses xs new) (sym pushed) (kept-moved r all untried rest new g are grown guesses before.kept);
       tried = subst (λ xs. AreTried r xs new) (sym pushed) (tried-moved r all untried rest new g are grown whole before.tried);
       real = λ board entries real. subst (λ xs. All (IsReal r board entries) xs × All (IsReal r board entries) new) (sym pushed)
@@ -109,11 +109,11 @@ pub returns-clause-kept : goal.returns-clause-kept
 returns-clause-kept c =
     let before = c.each.invariant in
     let none : c.each.self.left.items ≡ [] = first_of (search rules, grind (arith, common_steps)) in
-    all-kept c.args.self.now.refuses c.args.self.now.left.items c.each.self.tried.items c.each.self.left.items none before.kept before.real
+    all-kept c.args.self.now.unseen c.args.self.now.left.items c.each.self.tried.items c.each.self.left.items none before.kept before.real
 
 pub returns-in_err-try_steps-clause-full : goal.returns-in_err-try_steps-clause-full
 returns-in_err-try_steps-clause-full c =
-    let r = c.args.self.now.refuses in
+    let r = c.args.self.now.unseen in
     let g = c.in-Some.guess in
     let all = c.each.self.tried.items in
     let untried = c.each.self.left.items in
@@ -126,7 +126,7 @@ returns-in_err-try_steps-clause-full c =
     if-err c.from_residual.result c.in_err-try_steps.field-0.0 _ failed
     (λ full board entries found.
     subst (λ x. AreMany r board entries x) count
-    (subst (λ x. FindsMany x (all ++ g ∷ []) rest (2 + (length rest + length all + length c.each.self.spare.items))) before.keeps.refuses (c.in_err-try_steps.ensures.full full) board entries
+    (subst (λ x. FindsMany x (all ++ g ∷ []) rest (2 + (length rest + length all + length c.each.self.spare.items))) before.keeps.unseen (c.in_err-try_steps.ensures.full full) board entries
     (found-moved r board entries all untried rest g are (before.found board entries found))))
 
 pub each-smaller : goal.each-smaller
@@ -145,4 +145,4 @@ returns-clause-places c =
 pub returns-clause-found : goal.returns-clause-found
 returns-clause-found c board entries found =
     let none : c.each.self.left.items ≡ [] = first_of (search rules, grind (arith, common_steps)) in
-    subst (AreFound c.args.self.now.refuses board entries c.each.self.tried.items) none (c.each.invariant.found board entries found)
+    subst (AreFound c.args.self.now.unseen board entries c.each.self.tried.items) none (c.each.invariant.found board entries found)

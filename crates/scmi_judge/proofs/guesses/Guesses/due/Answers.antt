@@ -6,7 +6,7 @@ use Rattle.scmi_judge.proofs.guesses.Guesses.due.Goals as goal
 
 pub returns-then-show-clause-right : goal.returns-then-show-clause-right
 returns-then-show-clause-right c board entries real =
-    let r = c.args.self.now.refuses in
+    let r = c.args.self.now.unseen in
     let others = c.args.self.now.others.items in
     let g = c.index-in-Some.result.now in
     let place = c.others.place - 1 in

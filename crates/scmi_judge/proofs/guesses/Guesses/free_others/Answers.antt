@@ -12,7 +12,7 @@ each-preserved c =
             let before = c.each.invariant.keeps.boards board of in
             let both = of-popped board _ _ c.in-Some.guess c.in-Some.ensures.items before.others in
             record { left = before.left; tried = before.tried; others = both.0; spare = of-pushed board _ _ c.in-Some.guess (is_ok c.push.result) c.push.ensures.items before.spare both.1; made = before.made };
-        refuses = c.each.invariant.keeps.refuses;
+        unseen = c.each.invariant.keeps.unseen;
       };
       places =
           let popped : length c.each.self.others.items ≡ length c.pop.new.self.items + 1 = ap length c.in-Some.ensures.items ∙ length-append c.pop.new.self.items (c.in-Some.guess ∷ []) in
@@ -30,7 +30,7 @@ returns-in_default-push-clause-keeps c =
           let before = c.each.invariant.keeps.boards board of in
           let both = of-popped board _ _ c.in-Some.guess c.in-Some.ensures.items before.others in
           record { left = before.left; tried = before.tried; others = both.0; spare = of-pushed board _ _ c.in-Some.guess (is_ok c.push.result) c.push.ensures.items before.spare both.1; made = before.made };
-      refuses = c.each.invariant.keeps.refuses;
+      unseen = c.each.invariant.keeps.unseen;
     }
 
 pub returns-clause-places : goal.returns-clause-places

@@ -23,7 +23,7 @@ each-preserved c =
             let before = c.each.invariant.keeps.boards board of in
             let both = of-popped board _ _ c.in-Some.guess c.in-Some.ensures.items before.tried in
             c.give_by.ensures.keeps.boards board (record { left = before.left; tried = both.0; others = before.others; spare = before.spare; made = before.made });
-        refuses = c.give_by.ensures.keeps.refuses ∙ c.each.invariant.keeps.refuses;
+        unseen = c.give_by.ensures.keeps.unseen ∙ c.each.invariant.keeps.unseen;
       };
       apart = λ none.
           let both = c.in_ok-give_by.ensures.apart none in
@@ -36,9 +36,9 @@ each-preserved c =
           let given = c.in_ok-give_by.ensures.places in
           let same = c.each.invariant.places in
           omega (arith, popped, given, same);
-      given = subst (λ v. AreGiven c.args.self.now.refuses c.args.self.now.tried.items c.args.entry.now c.give_by.new.self.left.items v.items) (sym c.give_by.ensures.tried)
-          (given-step c.args.self.now.refuses c.args.self.now.tried.items c.each.self.left.items c.each.self.tried.items c.pop.new.self.items c.args.entry.now c.in-Some.guess c.each.invariant.given c.in-Some.ensures.items
-          c.give_by.new.self.left.items (subst (λ r. IsGiven r c.in-Some.guess c.args.entry.now c.each.self.left.items c.give_by.new.self.left.items) c.each.invariant.keeps.refuses c.in_ok-give_by.ensures.given));
+      given = subst (λ v. AreGiven c.args.self.now.unseen c.args.self.now.tried.items c.args.entry.now c.give_by.new.self.left.items v.items) (sym c.give_by.ensures.tried)
+          (given-step c.args.self.now.unseen c.args.self.now.tried.items c.each.self.left.items c.each.self.tried.items c.pop.new.self.items c.args.entry.now c.in-Some.guess c.each.invariant.given c.in-Some.ensures.items
+          c.give_by.new.self.left.items (subst (λ r. IsGiven r c.in-Some.guess c.args.entry.now c.each.self.left.items c.give_by.new.self.left.items) c.each.invariant.keeps.unseen c.in_ok-give_by.ensures.given));
     }
 
 pub returns-in_err-give_by-clause-keeps : goal.returns-in_err-give_by-clause-keeps
@@ -48,7 +48,7 @@ returns-in_err-give_by-clause-keeps c =
           let before = c.each.invariant.keeps.boards board of in
           let both = of-popped board _ _ c.in-Some.guess c.in-Some.ensures.items before.tried in
           c.give_by.ensures.keeps.boards board (record { left = before.left; tried = both.0; others = before.others; spare = before.spare; made = before.made });
-      refuses = c.give_by.ensures.keeps.refuses ∙ c.each.invariant.keeps.refuses;
+      unseen = c.give_by.ensures.keeps.unseen ∙ c.each.invariant.keeps.unseen;
     }
 
 pub returns-clause-different : goal.returns-clause-different

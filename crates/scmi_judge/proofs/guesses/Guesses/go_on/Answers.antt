@@ -19,7 +19,7 @@ returns-in_err-go_on_from-clause-keeps c =
           let before = c.each.invariant.keeps.boards board of in
           let both = of-popped board _ _ c.in-Some.guess c.in-Some.ensures.items before.others in
           c.go_on_from.ensures.keeps.boards board (record { left = before.left; tried = before.tried; others = both.0; spare = before.spare; made = before.made });
-      refuses = c.go_on_from.ensures.keeps.refuses ∙ c.each.invariant.keeps.refuses;
+      unseen = c.go_on_from.ensures.keeps.unseen ∙ c.each.invariant.keeps.unseen;
     }
 
 pub put-requires : goal.put-requires
@@ -30,7 +30,7 @@ put-requires c =
           let before = c.each.invariant.keeps.boards board of in
           let both = of-popped board _ _ c.in-Some.guess c.in-Some.ensures.items before.others in
           c.go_on_from.ensures.keeps.boards board (record { left = before.left; tried = before.tried; others = both.0; spare = before.spare; made = before.made });
-      refuses = c.go_on_from.ensures.keeps.refuses ∙ c.each.invariant.keeps.refuses;
+      unseen = c.go_on_from.ensures.keeps.unseen ∙ c.each.invariant.keeps.unseen;
     } in
     let board = c.requires.boards.0 in
     let before = c.each.invariant.keeps.boards board c.requires.boards.1 in
@@ -44,7 +44,7 @@ each-preserved c =
           let before = c.each.invariant.keeps.boards board of in
           let both = of-popped board _ _ c.in-Some.guess c.in-Some.ensures.items before.others in
           c.go_on_from.ensures.keeps.boards board (record { left = before.left; tried = before.tried; others = both.0; spare = before.spare; made = before.made });
-      refuses = c.go_on_from.ensures.keeps.refuses ∙ c.each.invariant.keeps.refuses;
+      unseen = c.go_on_from.ensures.keeps.unseen ∙ c.each.invariant.keeps.unseen;
     } in
     record {
       keeps = keep-again c.args.self.now c.go_on_from.new.self c.put.new.self from c.put.ensures.keeps;
@@ -66,7 +66,7 @@ returns-in_err-put-clause-keeps c =
           let before = c.each.invariant.keeps.boards board of in
           let both = of-popped board _ _ c.in-Some.guess c.in-Some.ensures.items before.others in
           c.go_on_from.ensures.keeps.boards board (record { left = before.left; tried = before.tried; others = both.0; spare = before.spare; made = before.made });
-      refuses = c.go_on_from.ensures.keeps.refuses ∙ c.each.invariant.keeps.refuses;
+      unseen = c.go_on_from.ensures.keeps.unseen ∙ c.each.invariant.keeps.unseen;
     } in
     keep-again c.args.self.now c.go_on_from.new.self c.put.new.self from c.put.ensures.keeps
 

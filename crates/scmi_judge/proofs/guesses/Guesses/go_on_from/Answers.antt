@@ -18,5 +18,5 @@ returns-clause-keeps c =
             spare = first.spare;
             made = c.give_value.ensures ∙ ap (λ (g : Guess). g.platform.board) c.copy_from-2.ensures ∙ is;
           });
-      refuses = c.keep_new-2.ensures.keeps.refuses ∙ c.keep_new.ensures.keeps.refuses;
+      unseen = c.keep_new-2.ensures.keeps.unseen ∙ c.keep_new.ensures.keeps.unseen;
     }

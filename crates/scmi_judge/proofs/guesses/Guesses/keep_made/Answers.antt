@@ -16,5 +16,5 @@ returns-clause-keeps c =
       boards = λ board of.
           let both = All-pop (λ (g : Guess). g.platform.board ≡ board) c.args.self.now.spare.items c.pop.new.self.items (Some c.in-Some.place) c.in-Some.ensures.items of.spare in
           c.leave.ensures.keeps.boards board (record { left = of.left; tried = of.tried; others = of.others; spare = both.0; made = of.made });
-      refuses = c.leave.ensures.keeps.refuses;
+      unseen = c.leave.ensures.keeps.unseen;
     }

@@ -1,4 +1,5 @@
-use Rattle.std.proofs.Common.{◌≡◌, ◌++◌}
+use Rattle.std.proofs.Common.{◌≡◌, ◌++◌, ◌∷◌, []}
+use Rattle.scmi_core.specs.declared.event.Event.TheVariants.{Sent}
 use Rattle.scmi_judge.specs.Exact.{HaveGrown, IsTriedAbove}
 use Rattle.scmi_judge.specs.Guesses.{KeepBoard, StayFound, places}
 use Rattle.scmi_judge.proofs.guesses.Guesses.try_postings.Given as goal
@@ -10,9 +11,10 @@ invariant-agents l =
       tried : l.self.tried ≡ l.initial.self.tried;
       others : l.self.others ≡ l.initial.self.others;
       places : places l.self ≡ places l.initial.self;
-      grown : HaveGrown l.initial.self.refuses l.guess l.initial.self.left.items l.self.left.items;
-      found : StayFound l.initial.self.refuses l.guess l.initial.self.tried.items l.initial.self.left.items l.self.left.items;
-      posts : IsTriedAbove l.initial.self.refuses l.guess l.agent (l.initial.self.tried.items ++ l.self.left.items);
+      grown : HaveGrown l.initial.self.unseen l.guess l.initial.self.left.items l.self.left.items;
+      found : StayFound l.initial.self.unseen l.guess l.initial.self.tried.items l.initial.self.left.items l.self.left.items;
+      posts : IsTriedAbove l.initial.self.unseen l.guess Sent l.agent
+          ((l.initial.self.tried.items ++ l.guess ∷ []) ++ l.self.left.items);
     }
 
 abbrev pub decreases-agents : goal.decreases-agents

@@ -1,54 +1,97 @@
-use Rattle.std.proofs.Common.{◌≡◌, ◌+◌, ◌++◌, Err, ap, ◌∙◌, subst, rules, arith}
+use Rattle.std.proofs.Common.{◌≡◌, ◌+◌, ◌++◌, ◌∷◌, [], Err, ap, ◌∙◌, subst, rules, arith}
 use Rattle.std.proofs.lemmas.Grind.{common_steps}
-use Rattle.scmi_core.specs.declared.event.Event.TheVariants.{Advance, AdvanceFailed}
+use Rattle.scmi_core.specs.declared.event.Event.TheVariants.{Advance, AdvanceFailed, Restarted, Sent}
 use Rattle.scmi_judge.specs.Exact.{HaveGrown, IsTried, IsTriedAbove}
 use Rattle.scmi_judge.specs.Guesses.{places}
-use Rattle.scmi_judge.proofs.Among.{grown-again, tried-later, tried-whole}
+use Rattle.scmi_judge.proofs.Among.{above-later, grown-again, tried-later, tried-whole}
 use Rattle.scmi_judge.proofs.Different.{finds-later, if-err, stays-found}
 use Rattle.scmi_judge.proofs.guesses.Guesses.try_steps.Goals as goal
 
 pub returns-clause-grown : goal.returns-clause-grown
 returns-clause-grown c =
-    let second = subst (λ x. HaveGrown x c.args.guess.now c.try_step.new.self.left.items c.try_step-2.new.self.left.items) c.try_step.ensures.keeps.refuses c.in_ok-try_step-2.ensures.grown in
-    let third = subst (λ x. HaveGrown x c.args.guess.now c.try_step-2.new.self.left.items c.try_postings.new.self.left.items)
-    (c.try_step-2.ensures.keeps.refuses ∙ c.try_step.ensures.keeps.refuses) c.in_ok-try_postings.ensures.grown in
-    let r = c.args.self.now.refuses in
+    let r = c.args.self.now.unseen in
     let g = c.args.guess.now in
-    grown-again r g c.args.self.now.left.items c.try_step.new.self.left.items c.try_postings.new.self.left.items c.in_ok-try_step.ensures.grown
-    (grown-again r g c.try_step.new.self.left.items c.try_step-2.new.self.left.items c.try_postings.new.self.left.items second third)
+    let left = c.args.self.now.left.items in
+    let one = c.try_step.new.self in
+    let two = c.try_step-2.new.self in
+    let three = c.try_postings.new.self in
+    let new = c.try_restarts.new.self.left.items in
+    let same-2 = c.try_step.ensures.keeps.unseen in
+    let same-3 = c.try_step-2.ensures.keeps.unseen ∙ same-2 in
+    let same-4 = c.try_postings.ensures.keeps.unseen ∙ same-3 in
+    let second = subst (λ x. HaveGrown x g one.left.items two.left.items) same-2
+    c.in_ok-try_step-2.ensures.grown in
+    let third = subst (λ x. HaveGrown x g two.left.items three.left.items) same-3
+    c.in_ok-try_postings.ensures.grown in
+    let fourth = subst (λ x. HaveGrown x g three.left.items new) same-4
+    c.in_ok-try_restarts.ensures.grown in
+    grown-again r g left one.left.items new c.in_ok-try_step.ensures.grown
+    (grown-again r g one.left.items two.left.items new second
+    (grown-again r g two.left.items three.left.items new third fourth))
 
 pub returns-clause-whole : goal.returns-clause-whole
 returns-clause-whole c =
-    let second = subst (λ x. HaveGrown x c.args.guess.now c.try_step.new.self.left.items c.try_step-2.new.self.left.items) c.try_step.ensures.keeps.refuses c.in_ok-try_step-2.ensures.grown in
-    let third = subst (λ x. HaveGrown x c.args.guess.now c.try_step-2.new.self.left.items c.try_postings.new.self.left.items)
-    (c.try_step-2.ensures.keeps.refuses ∙ c.try_step.ensures.keeps.refuses) c.in_ok-try_postings.ensures.grown in
-    let r = c.args.self.now.refuses in
+    let r = c.args.self.now.unseen in
     let g = c.args.guess.now in
-    let all = c.args.self.now.tried.items in
-    let new = c.try_postings.new.self.left.items in
-    let fails = subst (λ x. IsTried x g AdvanceFailed (all ++ c.try_step-2.new.self.left.items)) c.try_step.ensures.keeps.refuses
-    (subst (λ v. IsTried c.try_step.new.self.refuses g AdvanceFailed (v.items ++ c.try_step-2.new.self.left.items)) c.try_step.ensures.tried c.in_ok-try_step-2.ensures.moves) in
-    let posts = subst (λ x. IsTriedAbove x g 0 (all ++ new)) (c.try_step-2.ensures.keeps.refuses ∙ c.try_step.ensures.keeps.refuses)
-    (subst (λ v. IsTriedAbove c.try_step-2.new.self.refuses g 0 (v.items ++ new)) (c.try_step-2.ensures.tried ∙ c.try_step.ensures.tried) c.in_ok-try_postings.ensures.posts) in
+    let all = c.args.self.now.tried.items ++ g ∷ [] in
+    let one = c.try_step.new.self in
+    let two = c.try_step-2.new.self in
+    let three = c.try_postings.new.self in
+    let new = c.try_restarts.new.self.left.items in
+    let same-2 = c.try_step.ensures.keeps.unseen in
+    let same-3 = c.try_step-2.ensures.keeps.unseen ∙ same-2 in
+    let same-4 = c.try_postings.ensures.keeps.unseen ∙ same-3 in
+    let tried-2 = c.try_step.ensures.tried in
+    let tried-3 = c.try_step-2.ensures.tried ∙ tried-2 in
+    let tried-4 = c.try_postings.ensures.tried ∙ tried-3 in
+    let second = subst (λ x. HaveGrown x g one.left.items two.left.items) same-2
+    c.in_ok-try_step-2.ensures.grown in
+    let third = subst (λ x. HaveGrown x g two.left.items three.left.items) same-3
+    c.in_ok-try_postings.ensures.grown in
+    let fourth = subst (λ x. HaveGrown x g three.left.items new) same-4
+    c.in_ok-try_restarts.ensures.grown in
+    let fails = subst (λ x. IsTried x g AdvanceFailed (all ++ two.left.items)) same-2
+    (subst (λ v. IsTried one.unseen g AdvanceFailed ((v.items ++ g ∷ []) ++ two.left.items)) tried-2
+    c.in_ok-try_step-2.ensures.moves) in
+    let posts = subst (λ x. IsTriedAbove x g Sent 0 (all ++ three.left.items)) same-3
+    (subst (λ v. IsTriedAbove two.unseen g Sent 0 ((v.items ++ g ∷ []) ++ three.left.items)) tried-3
+    c.in_ok-try_postings.ensures.posts) in
+    let restarts = subst (λ x. IsTriedAbove x g Restarted 0 (all ++ new)) same-4
+    (subst (λ v. IsTriedAbove three.unseen g Restarted 0 ((v.items ++ g ∷ []) ++ new)) tried-4
+    c.in_ok-try_restarts.ensures.restarts) in
     tried-whole r g (all ++ new)
-    (tried-later r g g Advance all c.try_step-2.new.self.left.items new third
-    (tried-later r g g Advance all c.try_step.new.self.left.items c.try_step-2.new.self.left.items second c.in_ok-try_step.ensures.moves))
-    (tried-later r g g AdvanceFailed all c.try_step-2.new.self.left.items new third fails) posts
+    (tried-later r g g Advance all three.left.items new fourth
+    (tried-later r g g Advance all two.left.items three.left.items third
+    (tried-later r g g Advance all one.left.items two.left.items second
+    c.in_ok-try_step.ensures.moves)))
+    (tried-later r g g AdvanceFailed all three.left.items new fourth
+    (tried-later r g g AdvanceFailed all two.left.items three.left.items third fails))
+    (above-later r g g Sent 0 all three.left.items new fourth posts) restarts
 
 pub returns-clause-found : goal.returns-clause-found
 returns-clause-found c =
-    let r = c.args.self.now.refuses in
+    let r = c.args.self.now.unseen in
     let g = c.args.guess.now in
     let tried = c.args.self.now.tried.items in
     let left = c.args.self.now.left.items in
     let one = c.try_step.new.self in
     let two = c.try_step-2.new.self in
-    let same = c.try_step.ensures.tried in
-    stays-found r two.refuses g tried two.tried.items left two.left.items c.try_postings.new.self.left.items (c.try_step-2.ensures.keeps.refuses ∙ c.try_step.ensures.keeps.refuses)
-    (ap (λ v. v.items) (c.try_step-2.ensures.tried ∙ same))
-    (stays-found r one.refuses g tried one.tried.items left one.left.items two.left.items c.try_step.ensures.keeps.refuses (ap (λ v. v.items) same) c.in_ok-try_step.ensures.found
-    c.in_ok-try_step-2.ensures.found)
-    c.in_ok-try_postings.ensures.found
+    let three = c.try_postings.new.self in
+    let same-2 = c.try_step.ensures.keeps.unseen in
+    let same-3 = c.try_step-2.ensures.keeps.unseen ∙ same-2 in
+    let same-4 = c.try_postings.ensures.keeps.unseen ∙ same-3 in
+    let tried-2 = c.try_step.ensures.tried in
+    let tried-3 = c.try_step-2.ensures.tried ∙ tried-2 in
+    let tried-4 = c.try_postings.ensures.tried ∙ tried-3 in
+    stays-found r three.unseen g tried three.tried.items left three.left.items
+    c.try_restarts.new.self.left.items same-4
+    (ap (λ v. v.items) tried-4)
+    (stays-found r two.unseen g tried two.tried.items left two.left.items three.left.items same-3
+    (ap (λ v. v.items) tried-3)
+    (stays-found r one.unseen g tried one.tried.items left one.left.items two.left.items same-2
+    (ap (λ v. v.items) tried-2) c.in_ok-try_step.ensures.found c.in_ok-try_step-2.ensures.found)
+    c.in_ok-try_postings.ensures.found)
+    c.in_ok-try_restarts.ensures.found
 
 pub returns-in_err-try_step-2-clause-full : goal.returns-in_err-try_step-2-clause-full
 returns-in_err-try_step-2-clause-full c =
@@ -56,23 +99,52 @@ returns-in_err-try_step-2-clause-full c =
     let failed : c.from_residual-in_err-try_step-2.result ≡ Err c.in_err-try_step-2.field-0.0 = first_of (search rules, grind (arith, common_steps)) in
     if-err c.from_residual-in_err-try_step-2.result c.in_err-try_step-2.field-0.0 _ failed
     (λ full.
-    finds-later c.args.self.now.refuses one.refuses c.args.guess.now c.args.self.now.tried.items one.tried.items c.args.self.now.left.items one.left.items (2 + places c.args.self.now) (2 + places one)
-    c.try_step.ensures.keeps.refuses (ap (λ v. v.items) c.try_step.ensures.tried) (ap (λ n. 2 + n) c.in_ok-try_step.ensures.places) c.in_ok-try_step.ensures.found (c.in_err-try_step-2.ensures.full full))
+    finds-later c.args.self.now.unseen one.unseen c.args.guess.now c.args.self.now.tried.items one.tried.items c.args.self.now.left.items one.left.items (2 + places c.args.self.now) (2 + places one)
+    c.try_step.ensures.keeps.unseen (ap (λ v. v.items) c.try_step.ensures.tried) (ap (λ n. 2 + n) c.in_ok-try_step.ensures.places) c.in_ok-try_step.ensures.found (c.in_err-try_step-2.ensures.full full))
 
 pub returns-in_err-try_postings-clause-full : goal.returns-in_err-try_postings-clause-full
 returns-in_err-try_postings-clause-full c =
-    let r = c.args.self.now.refuses in
+    let r = c.args.self.now.unseen in
     let g = c.args.guess.now in
     let tried = c.args.self.now.tried.items in
     let left = c.args.self.now.left.items in
     let one = c.try_step.new.self in
     let two = c.try_step-2.new.self in
     let same = c.try_step.ensures.tried in
-    let both = stays-found r one.refuses g tried one.tried.items left one.left.items two.left.items c.try_step.ensures.keeps.refuses (ap (λ v. v.items) same) c.in_ok-try_step.ensures.found
+    let both = stays-found r one.unseen g tried one.tried.items left one.left.items two.left.items c.try_step.ensures.keeps.unseen (ap (λ v. v.items) same) c.in_ok-try_step.ensures.found
     c.in_ok-try_step-2.ensures.found in
     let failed : c.from_residual-in_err-try_postings.result ≡ Err c.in_err-try_postings.field-0.0 = first_of (search rules, grind (arith, common_steps)) in
     if-err c.from_residual-in_err-try_postings.result c.in_err-try_postings.field-0.0 _ failed
     (λ full.
-    finds-later r two.refuses g tried two.tried.items left two.left.items (2 + places c.args.self.now) (2 + places two)
-    (c.try_step-2.ensures.keeps.refuses ∙ c.try_step.ensures.keeps.refuses) (ap (λ v. v.items) (c.try_step-2.ensures.tried ∙ same))
+    finds-later r two.unseen g tried two.tried.items left two.left.items (2 + places c.args.self.now) (2 + places two)
+    (c.try_step-2.ensures.keeps.unseen ∙ c.try_step.ensures.keeps.unseen) (ap (λ v. v.items) (c.try_step-2.ensures.tried ∙ same))
     (ap (λ n. 2 + n) (c.in_ok-try_step-2.ensures.places ∙ c.in_ok-try_step.ensures.places)) both (c.in_err-try_postings.ensures.full full))
+
+pub returns-in_err-try_restarts-clause-full : goal.returns-in_err-try_restarts-clause-full
+returns-in_err-try_restarts-clause-full c =
+    let r = c.args.self.now.unseen in
+    let g = c.args.guess.now in
+    let tried = c.args.self.now.tried.items in
+    let left = c.args.self.now.left.items in
+    let one = c.try_step.new.self in
+    let two = c.try_step-2.new.self in
+    let three = c.try_postings.new.self in
+    let same-2 = c.try_step.ensures.keeps.unseen in
+    let same-3 = c.try_step-2.ensures.keeps.unseen ∙ same-2 in
+    let same-4 = c.try_postings.ensures.keeps.unseen ∙ same-3 in
+    let tried-2 = c.try_step.ensures.tried in
+    let tried-3 = c.try_step-2.ensures.tried ∙ tried-2 in
+    let tried-4 = c.try_postings.ensures.tried ∙ tried-3 in
+    let both = stays-found r one.unseen g tried one.tried.items left one.left.items two.left.items
+    same-2 (ap (λ v. v.items) tried-2) c.in_ok-try_step.ensures.found c.in_ok-try_step-2.ensures.found in
+    let all = stays-found r two.unseen g tried two.tried.items left two.left.items three.left.items
+    same-3 (ap (λ v. v.items) tried-3) both c.in_ok-try_postings.ensures.found in
+    let count = c.in_ok-try_postings.ensures.places ∙ c.in_ok-try_step-2.ensures.places
+    ∙ c.in_ok-try_step.ensures.places in
+    let failed : c.from_residual-in_err-try_restarts.result ≡ Err c.in_err-try_restarts.field-0.0 =
+    first_of (search rules, grind (arith, common_steps)) in
+    if-err c.from_residual-in_err-try_restarts.result c.in_err-try_restarts.field-0.0 _ failed
+    (λ full.
+    finds-later r three.unseen g tried three.tried.items left three.left.items
+    (2 + places c.args.self.now) (2 + places three) same-4 (ap (λ v. v.items) tried-4) (ap (λ n. 2 + n) count) all
+    (c.in_err-try_restarts.ensures.full full))

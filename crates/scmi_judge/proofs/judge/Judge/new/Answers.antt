@@ -11,7 +11,7 @@ returns-clause-start c =
     let board = c.new-5.ensures.board ∙ c.requires in
     record {
       sure = refl;
-      exact = subst (λ b. AreExact c.args.refuses b [] c.push.new.self.items) (sym board)
-          (subst (λ xs. AreExact c.args.refuses c.args.plan [] xs) (sym one) (exact-start c.args.refuses c.args.plan c.new.result (c.new.ensures.start c.args.refuses)));
+      exact = subst (λ b. AreExact c.args.unseen b [] c.push.new.self.items) (sym board)
+          (subst (λ xs. AreExact c.args.unseen c.args.plan [] xs) (sym one) (exact-start c.args.unseen c.args.plan c.new.result (c.new.ensures.start c.args.unseen)));
       different = subst AreDifferent (sym one) (different-one c.new.result);
     }
