@@ -1,8 +1,8 @@
 //! What the matches of a command line ask for.
 
 use crate::command::{
-    BINARY, FIRST, HELP, JSON, MERMAID, OFFSET, PROTOCOLS, REFUSALS, SAVE, SECOND, SIZE, STRIDE,
-    TAP, VERSION,
+    BINARY, FIRST, HELP, JSON, MERMAID, OFFSET, PROTOCOLS, REFUSALS, RESTARTS, SAVE, SECOND, SIZE,
+    STRIDE, TAP, VERSION,
 };
 use crate::form::task_of;
 use crate::request::Request;
@@ -10,7 +10,7 @@ use crate::task::Task;
 use clap::ArgMatches;
 use clap::parser::ValueSource;
 use scmi_board::number;
-use scmi_check::{Refusals, Style};
+use scmi_check::{NOTHING_UNSEEN, Refusals, Style, Unseen};
 use scmi_decode::{Layout, LayoutError};
 
 /// The name that standard input has among arguments.
@@ -24,8 +24,8 @@ pub struct Asked<'a> {
     pub style: Style,
     /// The protocols that are judged in a record.
     pub protocols: Option<&'a str>,
-    /// Which changes the hardware behind a record may have refused.
-    pub refusals: Refusals,
+    /// What may have happened behind a record that no entry shows.
+    pub unseen: Unseen,
     /// The file of the input, or of a board.
     pub first: Option<&'a str>,
     /// The file of a record.
@@ -106,7 +106,7 @@ fn task_by<'a>(task: Task, matches: &ArgMatches<'a>) -> Result<Asked<'a>, Unread
         request,
         style,
         protocols: value_of(matches, PROTOCOLS),
-        refusals: refusals_by(matches),
+        unseen: unseen_by(matches),
         first,
         second,
         save,
@@ -121,6 +121,14 @@ fn style_by(matches: &ArgMatches<'_>) -> Style {
         Style::Tap
     } else {
         Style::Plain
+    }
+}
+
+/// What may have happened behind a record that no entry shows.
+fn unseen_by(matches: &ArgMatches<'_>) -> Unseen {
+    Unseen {
+        refusals: refusals_by(matches),
+        restarts: is_used(matches, RESTARTS),
     }
 }
 
@@ -170,7 +178,7 @@ fn with_no_file<'a>(request: Request) -> Asked<'a> {
         request,
         style: Style::Plain,
         protocols: None,
-        refusals: Refusals::None,
+        unseen: NOTHING_UNSEEN,
         first: None,
         second: None,
         save: None,

@@ -25,6 +25,9 @@ pub const PROTOCOLS: &str = "protocols";
 /// The flag that says that the hardware behind a record may have refused changes.
 pub const REFUSALS: &str = "refusals";
 
+/// The flag that says that agents may have restarted anywhere in a record.
+pub const RESTARTS: &str = "restarts";
+
 /// The flag that asks for a diagram in the text of Mermaid.
 pub const MERMAID: &str = "mermaid";
 
@@ -92,6 +95,7 @@ fn task_command<'a>(alloc: Global, form: &Form) -> Result<Command<'a>, AllocErro
             .arg(flag(alloc, JSON))?
             .arg(option(alloc, PROTOCOLS, "LIST"))?
             .arg(flag(alloc, REFUSALS))?
+            .arg(flag(alloc, RESTARTS))?
             .arg(Arg::new(alloc, FIRST))?
             .arg(Arg::new(alloc, SECOND)),
         Operands::None => Ok(command),

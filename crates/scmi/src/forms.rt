@@ -78,7 +78,8 @@ adds line editing and history. docs/SCRIPTS.md has more.",
         task: Task::Check,
         word: "check",
         operands: Operands::BoardAndRecord,
-        usage: "scmi check [--tap] [--json] [--protocols LIST] [--refusals] BOARD [RECORD]",
+        usage: "\
+scmi check [--tap] [--json] [--protocols LIST] [--refusals] [--restarts] BOARD [RECORD]",
         summary: "checks a record of another platform's replies against SCMI",
         about: "\
 Checks a record of a platform's channels against the definitions of SCMI.",
@@ -95,6 +96,8 @@ counts them.
 0x10, 0x11 and 0x14 are checked.
 --refusals is for hardware that may refuse what was accepted: a delayed response of HARDWARE_ERROR
 is then right too.
+--restarts is for agents that may restart anywhere: what one asked for is then gone, its requests
+for notifications, its outbox, its delayed responses.
 A record may be as long as it likes: it is read a line at a time, and the report is written as it
 is read.
 --tap prints TAP, for a test system, and --json an object a line. docs/CHECK.md has the lines and

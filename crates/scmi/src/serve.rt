@@ -77,7 +77,7 @@ fn check_asked<'a>(asked: Asked<'a>, board: &'a str, terminal: Terminal) -> Opti
         is_colored: terminal.is_colored && asked.style == Style::Plain,
         is_watched: terminal.is_watched,
         protocols: asked.protocols,
-        refusals: asked.refusals,
+        unseen: asked.unseen,
         board,
         record: asked.second,
     })

@@ -14,7 +14,7 @@ use crate::report_record::report_record;
 use crate::serve::{without_feed, write_whole};
 use crate::watched::Watched;
 use scmi_board::{Items, byte};
-use scmi_check::{CheckError, CheckOptions, DIFFERS, PROTOCOLS, Refusals, Style, UNSURE};
+use scmi_check::{CheckError, CheckOptions, DIFFERS, PROTOCOLS, Style, UNSURE, Unseen};
 use scmi_draw::{Form, STEPS};
 use scmi_explain::{Fault, Kept, LastLine};
 use scmi_io::{CountedReader, FAILED_OUTPUT, INPUT_BYTES, read_rest, write_fault};
@@ -36,8 +36,8 @@ pub struct AskedCheck<'a> {
     pub is_watched: bool,
     /// The protocols that are judged, with commas between their numbers.
     pub protocols: Option<&'a str>,
-    /// Which changes the hardware behind the record may have refused.
-    pub refusals: Refusals,
+    /// What may have happened behind the record that no entry shows.
+    pub unseen: Unseen,
     /// `-` if the board is standard input.
     pub board: &'a str,
     /// `None` or `-` if the record is standard input.
@@ -165,7 +165,7 @@ fn check_on<T: Eprint, B: Read + Drop, R: Read + Drop, W: Write + Drop>(
     let mut output = LastLine::new(writer);
     let options = CheckOptions {
         protocols: &judged,
-        refusals: asked.refusals,
+        unseen: asked.unseen,
     };
     let style = asked.style;
     let status = run_record(alloc, &mut board, &mut record, options, &mut output, style);
