@@ -4,7 +4,7 @@ import shutil
 from collections import Counter
 from dataclasses import dataclass, field
 
-from functions import calls_itself, function_at, functions_of, homes_of, proof_of
+from functions import calls_itself, function_at, functions_of, homes_of, proof_of, without_clauses
 
 
 @dataclass
@@ -19,6 +19,7 @@ class Edit:
     has_copy: bool = False
     is_unedited: bool = False
     is_kept: bool = False
+    is_whole: bool = False
     faults: list = field(default_factory=list)
 
 
@@ -111,8 +112,29 @@ def copy_of(edit, number, folder):
         text = text.replace(old, new)
     if calls_itself(own, text):
         return None
+    text = text if edit.is_whole else with_named(edit, own, text, folder)
     attributes = re.search(r"(?: *#\[.*\]\n)*\Z", whole[:own.start])[0]
     return attributes + text.replace(f"fn {own.name}", f"fn {own.name}_wrong_{number}", 1)
+
+
+def with_named(edit, own, text, folder):
+    """A function's text without the clauses that an edit does not name, since a search for each takes its time.
+
+    Where a proof file answers goals of single clauses, two stay, for a goal of the only one has another name; and all
+    stay where it answers goals of all clauses at once, or proves the whole function.
+    """
+    named = {label for name, label in edit.clauses if name in own.names} & {*own.labels}
+    proof = folder / "proofs" / proof_of(own, own.file, homes_of(folder))
+    answered = answered_of(proof)
+    if not named or (proof / "Proof.antt").exists() or any("-clause-" not in it for it in answered):
+        return text
+    others = [it for it in own.labels if it not in named]
+    return without_clauses(text, {*others[1 if answered and len(named) == 1 else 0:]})
+
+
+def answered_of(proof):
+    """The goals at returns that the files of a function's proof answer."""
+    return {it for file in proof.glob("*.antt") for it in re.findall(r"\bgoal\.(returns\S*)", file.read_text())}
 
 
 def put_beside(edit, number, texts, folder):

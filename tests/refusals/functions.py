@@ -118,6 +118,26 @@ def calls_itself(function, text):
     return bool(re.search(rf"(?:(?<![\w.:])|self\.|Self::){function.name}\(", text.split(f"fn {function.name}", 1)[1][1:]))
 
 
+def without_clauses(text, labels):
+    """The text of a function without its clauses of these labels; those of closures in its body stay."""
+    kept, at = "", 0
+    body = re.search(rf"^{re.match(' *', text)[0]}\{{$", text, re.M)
+    for clause in CLAUSE.finditer(text, 0, body.start() if body else 0):
+        if (clause[1] or "result") in labels:
+            kept += text[at:clause.start()]
+            at = end_of_braces(text, clause.end()) + 1
+    return kept + text[at:]
+
+
+def end_of_braces(text, at):
+    """The end of the line in which the braces close that are open once before a place."""
+    depth = 1
+    while depth:
+        depth += {"{": 1, "}": -1}.get(text[at], 0)
+        at += 1
+    return text.index("\n", at)
+
+
 def body_of(function, text):
     """Where a function's body stands between its braces, or None where it can't be told."""
     own = text[function.start:function.end]
