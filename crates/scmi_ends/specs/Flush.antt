@@ -13,11 +13,13 @@ use Rattle.scmi_script.specs.declared.flushed.Flushed.{Flushed}
 use Rattle.scmi_script.specs.declared.flushed.Flushed.TheVariants as flushed
 use Rattle.scmi_ends.specs.ControllerView.{ControllerView, caller_of}
 
--- the first message of agent a's outbox is posted, by one post, and the history says so
+-- the first message of agent a's outbox is posted, by one post, where none was outstanding, and the
+-- history says so
 pub record PostsFirst (board : Board) (a : ℕ) (h : List Event) (old : CallerView) (h' : List Event) (new : CallerView) : Type 0 where
   pub message : Message
   pub first : slice_get (outbox board a h) 0 ≡ Some message
   pub unclosed : knows_close old ≡ false
+  pub none_outstanding : ¬ (IsOutstanding old)
   pub event : h' ≡ h ++ Sent a ∷ []
   pub end : new ≡ record old { posted = old.posted ++ Good message ∷ []; posts = one_more old.posts }
 
