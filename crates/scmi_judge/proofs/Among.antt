@@ -1,5 +1,5 @@
 -- What a set of platforms that may be behind a record keeps: each entry, and each unseen event.
-use Rattle.std.proofs.Common.{◌≡◌, ◌≢◌, ◌⊎◌, inl, inr, ℕ, zero, suc, ◌-◌, ◌<◌, ◌≤◌, true, false, List, [], ◌∷◌, ◌++◌, length, slice_get, Some, None, unwrap_or, refl, sym, ap, ◌∙◌, subst, arith}
+use Rattle.std.proofs.Common.{◌≡◌, ◌≢◌, ◌⊎◌, inl, inr, ℕ, zero, suc, ◌-◌, ◌<◌, ◌≤◌, List, [], ◌∷◌, ◌++◌, length, slice_get, Some, None, unwrap_or, refl, sym, ap, ◌∙◌, subst, arith}
 use Rattle.std.specs.List.{All}
 use Rattle.std.proofs.lemmas.List.{append-nil, append_assoc}
 use Rattle.std.proofs.lemmas.List.Elements.{All-append, All-cons, All-nil, All-pop, All-push}
@@ -13,6 +13,9 @@ use Rattle.scmi_judge.specs.Exact.{AreClosed, AreTried, EndsShown, HaveGrown, Ha
 use Rattle.scmi_judge.specs.Guess.{CannotCome, GoesOn, IsAmong, IsGuess, IsReal}
 use Rattle.scmi_judge.specs.declared.entry.Entry.{Entry}
 use Rattle.scmi_judge.specs.declared.guess.Guess.{Guess}
+use Rattle.scmi_judge.specs.Unseen.{event_by}
+use Rattle.scmi_judge.specs.declared.unseen.Act.{Act}
+use Rattle.scmi_judge.specs.declared.unseen.Act.TheVariants.{Post, Restart}
 use Rattle.scmi_judge.specs.declared.unseen.Unseen.{Unseen}
 use Rattle.scmi_judge.specs.Guesses.{IsIn}
 use Rattle.scmi_judge.proofs.Guessing.{decide}
@@ -137,24 +140,24 @@ above-later may g of event_of agent all left new grown tried a above =
     tried-later may g of (event_of a) all left new grown (tried a above)
 
 -- no message is posted to an agent that the board lacks
-pub tried-above : (may : Unseen) (g : Guess) (guesses : List Guess) → IsTriedAbove may g Sent (length g.platform.board.agents) guesses
+tried-above : (may : Unseen) (g : Guess) (guesses : List Guess) → IsTriedAbove may g Sent (length g.platform.board.agents) guesses
 tried-above may g guesses a above board entries h guess can =
     let last : a ≤ length g.platform.board.agents = subst (λ b. a ≤ length b.agents) (sym guess.of_board) can.follows.1 in
     absurd (omega (arith, above, last))
 
 -- nor does one restart
-pub restarts-above : (may : Unseen) (g : Guess) (guesses : List Guess)
+restarts-above : (may : Unseen) (g : Guess) (guesses : List Guess)
     → IsTriedAbove may g Restarted (length g.platform.board.agents) guesses
 restarts-above may g guesses a above board entries h guess can =
     let last : a ≤ length g.platform.board.agents =
     subst (λ b. a ≤ length b.agents) (sym guess.of_board) can.follows.1 in
     absurd (omega (arith, above, last))
 
--- no agent restarts if none may
-pub restarts-never : (may : Unseen) (g : Guess) (guesses : List Guess) → may.restarts ≡ false
-    → IsTriedAbove may g Restarted 0 guesses
-restarts-never may g guesses never a above board entries h guess can =
-    absurd (let no : false ≡ true = sym never ∙ can.unseen in cc)
+-- so nothing happens of an agent that the board lacks
+pub each-above : (may : Unseen) (g : Guess) (act : Act) (guesses : List Guess)
+    → IsTriedAbove may g (event_by act) (length g.platform.board.agents) guesses
+each-above may g Post guesses = tried-above may g guesses
+each-above may g Restart guesses = restarts-above may g guesses
 
 pub tried-down : (may : Unseen) (g : Guess) (event_of : ℕ → Event) (agent : ℕ)
     (guesses : List Guess) → 0 < agent → IsTried may g (event_of agent) guesses → IsTriedAbove may g event_of agent guesses

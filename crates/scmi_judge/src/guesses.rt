@@ -3,14 +3,13 @@ ghost use Rattle.std.specs.Prelude.{◌≡◌, ◌↔◌, ℕ, ◌+◌, ◌∷�
 ghost use Rattle.scmi_judge.specs.Exact.{AreClosed, HaveGiven, HaveGrown, HaveKept, IsOfBoard, IsTried, IsTriedAbove, IsTriedWhole};
 ghost use Rattle.scmi_judge.specs.Guesses.{AreDifferent, AreFound, AreOfBoard, FindsMany, HaveBoard, IsGiven, IsIn, KeepBoard, StayFound, all_places, places};
 ghost use Rattle.scmi_judge.specs.declared.entry.Entry.{Entry as Shown};
-ghost use Rattle.scmi_judge.specs.Unseen.{event_of};
-ghost use Rattle.scmi_core.specs.declared.event.Event.TheVariants.{Restarted, Sent};
+ghost use Rattle.scmi_judge.specs.Unseen.{event_by, event_of};
 ghost use Rattle.scmi_plan.specs.Board.{Board};
 
 use crate::entry::Entry;
 use crate::guess::Guess;
 use crate::stop::Stop;
-use crate::unseen::{Step, Unseen};
+use crate::unseen::{Act, Step, Unseen};
 use std::mem;
 
 /// Guesses of one board, in places that are there from the start.
@@ -78,16 +77,16 @@ impl Guesses {
     {
         self.try_step(guess, Step::Complete)?;
         self.try_step(guess, Step::Refuse)?;
-        self.try_postings(guess)?;
-        self.try_restarts(guess)?;
+        self.try_each(guess, Act::Post)?;
+        self.try_each(guess, Act::Restart)?;
         Ok(())
     }
 
-    /// Tries to post to each agent.
-    fn try_postings(&mut self, guess: &Guess) -> Result<(), Stop>
+    /// Tries this of each agent.
+    fn try_each(&mut self, guess: &Guess, act: Act) -> Result<(), Stop>
         requires boards { (board : Board) × AreOfBoard board self.old
             × (guess.now.platform.board ≡ board) }
-        ensures posts { OnOk result (IsTriedAbove self.old.unseen guess.now Sent 0
+        ensures each { OnOk result (IsTriedAbove self.old.unseen guess.now (event_by act) 0
             ((self.old.tried.items ++ guess.now ∷ []) ++ self.new.left.items)) }
         ensures grown { OnOk result
             (HaveGrown self.old.unseen guess.now self.old.left.items self.new.left.items) }
@@ -103,36 +102,7 @@ impl Guesses {
     {
         let mut agent = guess.platform.agents();
         'agents: while agent > 0 {
-            self.try_step(guess, Step::Post { agent })?;
-            agent -= 1;
-        }
-        Ok(())
-    }
-
-    /// Tries to restart each agent, if agents may.
-    fn try_restarts(&mut self, guess: &Guess) -> Result<(), Stop>
-        requires boards { (board : Board) × AreOfBoard board self.old
-            × (guess.now.platform.board ≡ board) }
-        ensures restarts { OnOk result (IsTriedAbove self.old.unseen guess.now Restarted 0
-            ((self.old.tried.items ++ guess.now ∷ []) ++ self.new.left.items)) }
-        ensures grown { OnOk result
-            (HaveGrown self.old.unseen guess.now self.old.left.items self.new.left.items) }
-        ensures found { OnOk result (StayFound self.old.unseen guess.now
-            self.old.tried.items self.old.left.items self.new.left.items) }
-        ensures places { OnOk result (places self.new ≡ places self.old) }
-        ensures keeps { KeepBoard self.old self.new }
-        ensures tried { self.new.tried ≡ self.old.tried }
-        ensures others { self.new.others ≡ self.old.others }
-        ensures full { IfErr result (λ stop. stop ≡ Stop.Full
-            → FindsMany self.old.unseen (self.old.tried.items ++ guess.now ∷ [])
-            self.old.left.items (2 + places self.old)) }
-    {
-        if !self.unseen.restarts {
-            return Ok(());
-        }
-        let mut agent = guess.platform.agents();
-        'agents: while agent > 0 {
-            self.try_step(guess, Step::Restart { agent })?;
+            self.try_step(guess, act.step(agent))?;
             agent -= 1;
         }
         Ok(())

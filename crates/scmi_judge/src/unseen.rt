@@ -1,4 +1,6 @@
 //! What happens to a platform that no entry of a record shows by itself.
+ghost use Rattle.std.specs.Prelude.{◌≡◌};
+ghost use Rattle.scmi_judge.specs.Unseen.{event_by, event_of};
 
 /// An event that no entry shows by itself.
 #[derive(Clone, Copy, PartialEq, Eq, Debug)]
@@ -11,6 +13,27 @@ pub(crate) enum Step {
     Post { agent: u32 },
     /// An agent restarts.
     Restart { agent: u32 },
+}
+
+/// What may happen of each agent that no entry shows by itself.
+#[derive(Clone, Copy, PartialEq, Eq, Debug)]
+pub(crate) enum Act {
+    /// The first message for it is posted into its channel.
+    Post,
+    /// It restarts.
+    Restart,
+}
+
+impl Act {
+    /// The step of this agent.
+    pub fn step(self, agent: u32) -> Step
+        ensures { event_of result ≡ event_by self agent }
+    {
+        match self {
+            Act::Post => Step::Post { agent },
+            Act::Restart => Step::Restart { agent },
+        }
+    }
 }
 
 /// What may happen to a platform that no entry of a record shows by itself, beside pending sets

@@ -34,7 +34,7 @@ use Rattle.scmi_ends.specs.ControllerView.{ControllerView, callee_of, caller_of}
 use Rattle.scmi_ends.specs.Each.{AllFrom}
 use Rattle.scmi_ends.specs.Flush.{Flushes, FlushesOne}
 use Rattle.scmi_ends.specs.ServeOn.{ServesOn, ServesOneOn}
-use Rattle.scmi_laws.specs.Round.{AddsAtMostOneEach, AddsFairly, AtMostOneEach, EndsFirst, HasPostedAll, IsCommand, IsFlushedOnce, IsOrderly, IsPosting, IsServedOnce, IsWaiting}
+use Rattle.scmi_laws.specs.Round.{AddsAtMostOneEach, AddsFairly, AtMostOneEach, EndsFirst, HasPostedAll, IsCommand, IsFlushedOnce, IsOrderly, IsPosting, IsServedOnce}
 use Rattle.scmi_laws.proofs.Added.{pending-more}
 use Rattle.scmi_laws.proofs.Events.{sent}
 
@@ -192,19 +192,21 @@ module _ {a : ℕ} {c c' : ControllerView} {asked asked' : List Asked → Type 0
 orderly-collects : (v : CallerView) (r : Collected) (w : CallerView) → Collects v r w → IsOrderly v
     → IsOrderly w
 orderly-collects v collected.Nothing w s is =
-    subst IsOrderly (sym s) (record { answers = is.answers; left = is.left })
+    subst IsOrderly (sym s) is
 orderly-collects v (collected.Got answer) w s is =
     let unread = s.was_outstanding.unread in
     subst IsOrderly (sym s.read)
     (record {
       answers = omega (arith, length-append v.read (answer ∷ []));
+      at_most_one_unread = omega (arith, length-append v.read (answer ∷ []));
       left = is.left;
     })
 orderly-collects v collected.Closed w s is =
     let posted : length w.posted ≡ length v.posted = ap (λ u. length u.posted) s.told in
     let read : length w.read ≡ length v.read = ap (λ u. length u.read) s.told in
     let before : length v.read ≤ length v.posted = is.answers in
-    record { answers = omega arith; left = λ left. s.known }
+    let most : length v.posted ≤ length v.read + 1 = is.at_most_one_unread in
+    record { answers = omega arith; at_most_one_unread = omega arith; left = λ left. s.known }
 
 collects-once : (v : CallerView) (r : Collected) (w : CallerView) → Collects v r w
     → (w.posted ≡ v.posted) × (w.collects ≡ one_more v.collects)
@@ -219,6 +221,15 @@ open_left : (left knows : Bool) → (left ≡ true → knows ≡ true) → knows
 open_left false knows known unclosed = refl
 open_left true knows known unclosed = let yes = known refl in absurd (cc)
 
+-- where nothing is outstanding and the end is open, each answer was read
+all_read : (v : CallerView) → IsOrderly v → knows_close v ≡ false → ¬ (IsOutstanding v)
+    → length v.posted ≡ length v.read
+all_read v is unclosed none =
+    let stays = open_left v.left (knows_close v) is.left unclosed in
+    let differ : length v.posted ≢ length v.read + 1 =
+    λ unread. none (record { unread = unread; stays = stays }) in
+    let least = is.answers in let most = is.at_most_one_unread in omega (arith, least, most, differ)
+
 -- what follows the `collect`
 module _ (full : Bool) (board : Board) (a : ℕ) (h h' : List Event) (w z : CallerView) where
   -- a post is outstanding, or there is no place
@@ -232,18 +243,26 @@ module _ (full : Bool) (board : Board) (a : ℕ) (h h' : List Event) (w z : Call
       by : CanPostNone → IsOrderly z
       by (inl waits) = subst IsOrderly (sym waits.1) is
       by (inr none) =
-          subst IsOrderly (sym none.0.same) (record { answers = is.answers; left = is.left })
+          subst IsOrderly (sym none.0.same)
+          (record {
+            answers = is.answers;
+            at_most_one_unread = is.at_most_one_unread;
+            left = is.left;
+          })
   orderly-flushes flushed.Nothing s is = subst IsOrderly (sym s.1) is
   orderly-flushes flushed.Closed s is =
       let posted : length z.posted ≡ length w.posted = ap (λ u. length u.posted) s.1.told in
       let read : length z.read ≡ length w.read = ap (λ u. length u.read) s.1.told in
       let before : length w.read ≤ length w.posted = is.answers in
-      record { answers = omega arith; left = λ left. s.1.known }
+      let most : length w.posted ≤ length w.read + 1 = is.at_most_one_unread in
+      record { answers = omega arith; at_most_one_unread = omega arith; left = λ left. s.1.known }
   orderly-flushes flushed.Posted s is =
-      let before : length w.read ≤ length w.posted = is.answers in
+      let read = all_read w is s.unclosed s.none_outstanding in
+      let more = length-append w.posted (Good s.message ∷ []) in
       subst IsOrderly (sym s.end)
       (record {
-        answers = omega (arith, length-append w.posted (Good s.message ∷ []));
+        answers = omega (arith, read, more);
+        at_most_one_unread = omega (arith, read, more);
         left = is.left;
       })
 
@@ -284,17 +303,15 @@ module _ (full : Bool) (board : Board) (a : ℕ) (h h' : List Event) (w z : Call
     where
       by : CanPostNone → HasPostedAll full board a h' z
       by (inl waits) =
-          let was = waits.0 in
-          let unread : length w.read < length w.posted = omega (arith, was.unread) in
-          inr (inl (subst IsWaiting (sym waits.1) (record { unread = unread; stays = was.stays })))
+          inr (inl (subst IsOutstanding (sym waits.1) waits.0))
       by (inr none) = inr (inr (inr none.0.may))
   flushed-all flushed.Nothing s is = inl (ap (outbox board a) s.0 ∙ s.3)
   flushed-all flushed.Closed s is = inr (inr (inl s.1.known))
   flushed-all flushed.Posted s is =
-      let before : length w.read ≤ length w.posted = is.answers in
-      inr (inl (subst IsWaiting (sym s.end)
+      let read = all_read w is s.unclosed s.none_outstanding in
+      inr (inl (subst IsOutstanding (sym s.end)
       (record {
-        unread = omega (arith, length-append w.posted (Good s.message ∷ []));
+        unread = omega (arith, read, length-append w.posted (Good s.message ∷ []));
         stays = open_left w.left (knows_close w) is.left s.unclosed;
       })))
 

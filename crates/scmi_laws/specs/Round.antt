@@ -1,10 +1,10 @@
 -- What a round of the platform leaves: it serves each agent once, ends the first pending set, and
 -- flushes each agent's outbox once.
-use Rattle.std.specs.Prelude.{◌≡◌, ◌⊎◌, ℕ, ◌+◌, ◌<◌, ◌≤◌, Bool, true, false, List, [], ◌∷◌, ◌++◌, length, drop}
+use Rattle.std.specs.Prelude.{◌≡◌, ◌⊎◌, ℕ, ◌+◌, ◌<◌, ◌≤◌, Bool, true, List, [], ◌∷◌, ◌++◌, length, drop}
 use Rattle.std.specs.List.{All}
 use Rattle.scmi_codec.specs.declared.frame.Frame.{Frame}
 use Rattle.scmi_codec.specs.declared.frame.Answer.{Answer}
-use Rattle.scmi_link.specs.View.{CalleeView, CallerView, Owes, knows_close, one_more}
+use Rattle.scmi_link.specs.View.{CalleeView, CallerView, IsOutstanding, Owes, knows_close, one_more}
 use Rattle.scmi_plan.specs.Board.{Board}
 use Rattle.scmi_core.specs.declared.event.Event.{Event}
 use Rattle.scmi_core.specs.declared.event.Event.TheVariants.{Sent}
@@ -81,21 +81,17 @@ pub record IsFlushedOnce (old new : CallerView) : Type 0 where
   pub at_most_one : length messages ≤ 1
   pub collected : new.collects ≡ one_more old.collects
 
--- an endpoint waits for an answer: fewer answers were read than frames posted, and the last post
--- was neither withdrawn nor given up
-pub record IsWaiting (v : CallerView) : Type 0 where
-  pub unread : length v.read < length v.posted
-  pub stays : v.left ≡ false
-
--- what a new endpoint is, and each call leaves: no more answers were read than frames posted, and a
--- post was withdrawn or given up only by a close that the endpoint knows of
+-- what a new endpoint is, and each call leaves: the answer to each frame that was posted was read,
+-- or to each but the last, and a post was withdrawn or given up only by a close that the endpoint
+-- knows of
 pub record IsOrderly (v : CallerView) : Type 0 where
   pub answers : length v.read ≤ length v.posted
+  pub at_most_one_unread : length v.posted ≤ length v.read + 1
   pub left : v.left ≡ true → knows_close v ≡ true
 
--- nothing waits in agent a's outbox after history h, or else the endpoint of its P2A channel has a
--- message there that was not taken back, or knows of a close, or the channel may be full
+-- nothing waits in agent a's outbox after history h, or else a message is outstanding on its P2A
+-- channel, or the endpoint knows of a close, or the channel may be full
 abbrev pub HasPostedAll : Bool → Board → ℕ → List Event → CallerView → Type 0
 HasPostedAll full board a h caller =
     (outbox board a h ≡ [])
-    ⊎ (IsWaiting caller ⊎ ((knows_close caller ≡ true) ⊎ (full ≡ true)))
+    ⊎ (IsOutstanding caller ⊎ ((knows_close caller ≡ true) ⊎ (full ≡ true)))

@@ -1,8 +1,8 @@
 use Rattle.std.proofs.Common.{◌≡◌, ◌++◌, ◌∷◌, []}
-use Rattle.scmi_core.specs.declared.event.Event.TheVariants.{Restarted}
 use Rattle.scmi_judge.specs.Exact.{HaveGrown, IsTriedAbove}
 use Rattle.scmi_judge.specs.Guesses.{KeepBoard, StayFound, places}
-use Rattle.scmi_judge.proofs.guesses.Guesses.try_restarts.Given as goal
+use Rattle.scmi_judge.specs.Unseen.{event_by}
+use Rattle.scmi_judge.proofs.guesses.Guesses.try_each.Given as goal
 
 abbrev pub invariant-agents : goal.invariant-agents
 invariant-agents l =
@@ -13,7 +13,7 @@ invariant-agents l =
       places : places l.self ≡ places l.initial.self;
       grown : HaveGrown l.initial.self.unseen l.guess l.initial.self.left.items l.self.left.items;
       found : StayFound l.initial.self.unseen l.guess l.initial.self.tried.items l.initial.self.left.items l.self.left.items;
-      restarts : IsTriedAbove l.initial.self.unseen l.guess Restarted l.agent
+      each : IsTriedAbove l.initial.self.unseen l.guess (event_by l.act) l.agent
           ((l.initial.self.tried.items ++ l.guess ∷ []) ++ l.self.left.items);
     }
 

@@ -1,12 +1,12 @@
 use Rattle.std.proofs.Common.{◌≡◌, ◌+◌, ◌<◌, ◌++◌, ◌∷◌, [], Err, ap, ◌∙◌, subst, rules, arith}
 use Rattle.std.proofs.lemmas.Grind.{common_steps}
-use Rattle.scmi_core.specs.declared.event.Event.TheVariants.{Restarted}
 use Rattle.scmi_judge.specs.Exact.{HaveGrown, IsTried}
+use Rattle.scmi_judge.specs.Unseen.{event_by}
 use Rattle.scmi_judge.proofs.Among.{above-later, grown-again, tried-down}
 use Rattle.scmi_judge.proofs.Boards.{keep-again}
 use Rattle.scmi_judge.specs.Guesses.{places}
 use Rattle.scmi_judge.proofs.Different.{finds-later, if-err, stays-found}
-use Rattle.scmi_judge.proofs.guesses.Guesses.try_restarts.Goals as goal
+use Rattle.scmi_judge.proofs.guesses.Guesses.try_each.Goals as goal
 
 pub agents-preserved : goal.agents-preserved
 agents-preserved c =
@@ -18,9 +18,12 @@ agents-preserved c =
     let before = c.agents.invariant in
     let some : 0 < c.agents.agent = omega arith in
     let grown = subst (λ x. HaveGrown x g c.agents.self.left.items new) before.keeps.unseen c.in_ok-try_step.ensures.grown in
-    let tried = subst (λ x. IsTried x g (Restarted c.agents.agent) (all ++ new)) before.keeps.unseen
-    (subst (λ v. IsTried c.agents.self.unseen g (Restarted c.agents.agent) ((v.items ++ g ∷ []) ++ new))
-    before.tried c.in_ok-try_step.ensures.moves) in
+    let event = event_by c.args.act c.agents.agent in
+    let moves = subst (λ e. IsTried c.agents.self.unseen g e
+    ((c.agents.self.tried.items ++ g ∷ []) ++ new)) c.step.ensures c.in_ok-try_step.ensures.moves in
+    let tried = subst (λ x. IsTried x g event (all ++ new)) before.keeps.unseen
+    (subst (λ v. IsTried c.agents.self.unseen g event ((v.items ++ g ∷ []) ++ new))
+    before.tried moves) in
     record {
       keeps = keep-again c.args.self.now c.agents.self c.try_step.new.self before.keeps c.try_step.ensures.keeps;
       tried = c.try_step.ensures.tried ∙ before.tried;
@@ -29,8 +32,9 @@ agents-preserved c =
       grown = grown-again r g c.args.self.now.left.items c.agents.self.left.items new before.grown grown;
       found = stays-found r c.agents.self.unseen g tried-before c.agents.self.tried.items c.args.self.now.left.items c.agents.self.left.items new before.keeps.unseen (ap (λ v. v.items) before.tried) before.found
           c.in_ok-try_step.ensures.found;
-      restarts = tried-down r g Restarted c.agents.agent (all ++ new) some tried
-          (above-later r g g Restarted c.agents.agent all c.agents.self.left.items new grown before.restarts);
+      each = tried-down r g (event_by c.args.act) c.agents.agent (all ++ new) some tried
+          (above-later r g g (event_by c.args.act) c.agents.agent all c.agents.self.left.items new
+          grown before.each);
     }
 
 pub returns-in_err-try_step-clause-full : goal.returns-in_err-try_step-clause-full
