@@ -249,6 +249,9 @@ impl<C: Channel> AgentEnd<C> {
         requires { IsOfLink (C.identity link.now.a2p) (C.identity link.now.p2a) self }
         ensures ok { IfOk result (λ next. BeginsAgain self next) }
         ensures err { IfErr result (λ stays. StillWaits self stays) }
+        ensures ok_link { IfOk result (IsOfLink (C.identity link.now.a2p) (C.identity link.now.p2a)) }
+        ensures err_link { IfErr result
+            (IsOfLink (C.identity link.now.a2p) (C.identity link.now.p2a)) }
     {
         let _answer = self.collect(link);
         let _message = self.next_p2a(link);
