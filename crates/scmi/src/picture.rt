@@ -6,7 +6,7 @@ use scmi_chart::Recorder;
 use scmi_check::{CheckError, Names, PROTOCOLS, Placed, Record, read_record};
 use scmi_codec::{Answer, Frame, Header, Message, payload_of};
 use scmi_core::Core;
-use scmi_draw::STEPS;
+use scmi_draw::{STEPS, title_of};
 use scmi_judge::Entry;
 use scmi_link::Collected;
 use scmi_live::in_hertz;
@@ -60,7 +60,7 @@ pub(crate) fn picture_of(alloc: Global, board: &[u8], text: &[u8]) -> Result<Cha
 
 /// The record of a text.
 fn read_with_names(alloc: Global, names: &BoardNames, text: &[u8]) -> Result<Record, NotDrawn> {
-    let numbered = in_numbers(alloc, names, text)?;
+    let numbered = with_numbers(alloc, names, text)?;
     let mut lines = Lines::of_text(&numbered);
     match read_record(alloc, &mut lines, names.agents(), &PROTOCOLS) {
         Ok(record) => Ok(record),
@@ -69,7 +69,7 @@ fn read_with_names(alloc: Global, names: &BoardNames, text: &[u8]) -> Result<Rec
 }
 
 /// The text of a record with numbers in place of names.
-fn in_numbers(alloc: Global, names: &BoardNames, text: &[u8]) -> Result<Vec<u8>, AllocError> {
+fn with_numbers(alloc: Global, names: &BoardNames, text: &[u8]) -> Result<Vec<u8>, AllocError> {
     let mut numbered = Vec::new(alloc);
     for line in text.split(|byte| *byte == b'\n') {
         match names.line(alloc, line)? {
@@ -96,8 +96,7 @@ fn chart_of(
         let line = text_at(&lines, placed.line);
         draw(&mut recorder, &core, line, placed)?;
     }
-    let title = format!(in alloc; "{} {}", board.vendor, board.sub_vendor)?;
-    recorder.finish(title.into_bytes(), subtitle_of(alloc, record)?)
+    recorder.finish(title_of(alloc, board)?, subtitle_of(alloc, record)?)
 }
 
 /// The line of this number, from 1.

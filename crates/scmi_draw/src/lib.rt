@@ -20,5 +20,5 @@ pub use any_mode::AnyMode;
 pub use draw::{draw_input, read_chart, run_draw};
 pub use form::Form;
 pub use mode::Mode;
-pub use run::{STEPS, chart_of};
+pub use run::{STEPS, chart_of, title_of};
 pub use threads::chart_of_threads;

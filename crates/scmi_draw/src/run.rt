@@ -142,8 +142,8 @@ fn subtitle_of(
     Ok(text.into_bytes())
 }
 
-/// The title of a chart of a run on this board.
-pub(crate) fn title_of(alloc: Global, board: &RawPlan) -> Result<Vec<u8>, AllocError> {
+/// The title of a chart of a platform of this board: its vendor and its sub-vendor.
+pub fn title_of(alloc: Global, board: &RawPlan) -> Result<Vec<u8>, AllocError> {
     let title = format!(in alloc; "{} {}", board.vendor, board.sub_vendor)?;
     Ok(title.into_bytes())
 }

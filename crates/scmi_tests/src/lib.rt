@@ -22,6 +22,8 @@ mod eleven;
 #[cfg(test)]
 mod example;
 #[cfg(test)]
+mod lives;
+#[cfg(test)]
 mod meeting;
 #[cfg(test)]
 mod messages;
