@@ -192,7 +192,12 @@ module _ {a : ℕ} {c c' : ControllerView} {asked asked' : List Asked → Type 0
 orderly-collects : (v : CallerView) (r : Collected) (w : CallerView) → Collects v r w → IsOrderly v
     → IsOrderly w
 orderly-collects v collected.Nothing w s is =
-    subst IsOrderly (sym s) is
+    subst IsOrderly (sym s)
+    (record {
+      answers = is.answers;
+      at_most_one_unread = is.at_most_one_unread;
+      left = is.left;
+    })
 orderly-collects v (collected.Got answer) w s is =
     let unread = s.was_outstanding.unread in
     subst IsOrderly (sym s.read)
