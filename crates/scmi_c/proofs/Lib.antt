@@ -3,7 +3,7 @@ pub mod LooseValues
 pub mod SaidValues
 mod Answering
 mod Codes
-mod AreaIn
+mod Areas
 mod Keeping
 mod Driving
 mod WordReplies

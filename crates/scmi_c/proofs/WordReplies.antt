@@ -25,7 +25,7 @@ use Rattle.scmi_core.specs.declared.answered.Answered.TheVariants as answered
 use Rattle.scmi_core.specs.declared.event.Event.{Event}
 use Rattle.scmi_core.specs.declared.event.Event.TheVariants.{Command as Called}
 use Rattle.scmi_c.proofs.Answering.{reply-header}
-use Rattle.scmi_c.proofs.AreaIn.{answer-within, one-word}
+use Rattle.scmi_c.proofs.Areas.{answer-within, one-word}
 use Rattle.scmi_c.specs.Words.{IsWritten, count_of, frame_in, words_after}
 
 -- a reply with this header word was written

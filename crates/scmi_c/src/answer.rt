@@ -21,7 +21,7 @@ use std::alloc::Global;
 /// if a command waits to be committed or to fail; `NOTHING` if the channel is free; `NO_AGENT`. After
 /// another number than `DONE` nothing changed. The hardware is not asked, and nothing is said of
 /// it: a program that drives hardware uses `scmi_ask`.
-#[tactic(auto, using(crate::proofs::AreaIn::whole_waits))]
+#[tactic(auto, using(crate::proofs::Areas::whole_waits))]
 #[unsafe(no_mangle)]
 pub extern "C" fn scmi_answer(
     alloc: Global,

@@ -5,7 +5,6 @@ ghost use Rattle.scmi_codec.specs.Area.{area_after_answer, header_at, message_of
 ghost use Rattle.scmi_codec.specs.ChannelArea.{capacity, channel_waiting, is_channel_size};
 ghost use Rattle.scmi_codec.specs.declared.frame.Answer.TheVariants as frame_answer;
 ghost use Rattle.scmi_plan.specs.Agent.{IsAgent};
-ghost use Rattle.scmi_plan.specs.Board.{channel_of};
 ghost use Rattle.scmi_plan.specs.Plan.{IsValid};
 ghost use Rattle.scmi_core.specs.Effect.{effect_after};
 ghost use Rattle.scmi_core.specs.declared.answered.Answered.TheVariants as answered_by;

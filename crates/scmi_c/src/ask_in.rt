@@ -12,7 +12,7 @@ ghost use Rattle.scmi_c.specs.Calls.{ChangesNothing, HasAnswered};
 ghost use Rattle.scmi_c.specs.Channel.{HasAnotherSize, IsFreeOf};
 ghost use Rattle.scmi_c.specs.declared.code.TheConstants.{ASKED, DONE, EFFECT, NO_AGENT, NO_PLATFORM, NO_FRAME, WRONG_SIZE};
 
-use crate::area_in::ask;
+use crate::area::ask;
 use crate::code::{DONE, EFFECT, code};
 use crate::desk::Desk;
 use crate::effect::{EffectNumbers, put_numbers};
@@ -77,6 +77,10 @@ pub extern "C" fn scmi_ask_in(
         Ok(desk) => desk,
         Err(number) => return number,
     };
+    if let Err(refusal) = desk.held.check_size(agent, area.len()) {
+        platform.put(desk);
+        return code(Err(refusal));
+    }
     let seat: &mut Desk = &mut desk;
     let given = ask(&mut seat.held, &mut seat.exchange, agent, area);
     if let Ok(Some(change)) = given {

@@ -55,7 +55,7 @@ impl Held {
 
     /// Refuses a number that is no agent's, and a number of bytes that is not the size of an area
     /// of the agent's channel.
-    #[tactic(auto, using(crate::proofs::AreaIn::size_of_words, crate::proofs::AreaIn::words_of_size))]
+    #[tactic(auto, using(crate::proofs::Areas::size_of_words, crate::proofs::Areas::words_of_size))]
     pub fn check_size(&self, agent: u32, bytes: usize) -> Result<(), Refusal>
         ensures ok { OnOk result (HasSize agent bytes self.now) }
         ensures size { OnOk result (is_channel_size bytes ≡ true) }

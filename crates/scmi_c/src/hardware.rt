@@ -25,7 +25,7 @@ use std::alloc::Global;
 /// frame, until `scmi_commit` or `scmi_fail` answers it: `EFFECT`; the area and the history are as
 /// they were. `NO_PLATFORM`; `ASKED` if a command was asked about already; `NO_FRAME` if the
 /// channel is free; `NO_AGENT`. After another number than these two nothing changed.
-#[tactic(auto, using(crate::proofs::AreaIn::whole_waits))]
+#[tactic(auto, using(crate::proofs::Areas::whole_waits))]
 #[unsafe(no_mangle)]
 pub extern "C" fn scmi_ask(
     alloc: Global,

@@ -10,7 +10,6 @@ mod answer;
 mod answer_in;
 mod answer_words;
 mod area;
-mod area_in;
 mod ask_in;
 mod ask_words;
 mod board;

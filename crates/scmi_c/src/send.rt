@@ -19,7 +19,7 @@ use std::alloc::Global;
 /// Writes the first message of an agent's outbox into an area, as a caller posts it; it stays in
 /// the outbox. `DONE`; `NO_PLATFORM`; `NO_AGENT`; `NOTHING` if the outbox is empty; `NOT_FREE` if
 /// the area still holds a message. After another number than `DONE` nothing changed.
-#[tactic(auto, using(crate::proofs::AreaIn::whole_waits))]
+#[tactic(auto, using(crate::proofs::Areas::whole_waits))]
 #[unsafe(no_mangle)]
 pub extern "C" fn scmi_next(
     alloc: Global,

@@ -1,6 +1,6 @@
 use Rattle.std.proofs.Common.{rules, length}
 use Rattle.scmi_c.specs.Standing.{board_of}
-use Rattle.scmi_c.proofs.AreaIn.{answered-in, has-room}
+use Rattle.scmi_c.proofs.Areas.{answered-in, has-room}
 use Rattle.scmi_c.proofs.area.execute.Goals as goal
 
 pub returns-clause-answered : goal.returns-clause-answered

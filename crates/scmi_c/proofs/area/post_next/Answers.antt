@@ -1,7 +1,7 @@
 use Rattle.std.proofs.Common.{rules, ◌≡◌, None, length, arith}
 use Rattle.scmi_codec.specs.ChannelArea.{channel_waiting}
 use Rattle.scmi_c.specs.Standing.{board_of}
-use Rattle.scmi_c.proofs.AreaIn.{first-within, free-is, has-room, not-refused}
+use Rattle.scmi_c.proofs.Areas.{first-within, free-is, has-room, not-refused}
 use Rattle.scmi_c.proofs.area.post_next.Goals as goal
 
 pub returns-in-Ok-clause-ok : goal.returns-in-Ok-clause-ok

@@ -1,5 +1,5 @@
 use Rattle.std.proofs.Common.{length, ◌∙◌}
-use Rattle.scmi_c.proofs.AreaIn.{room-is, was-written}
+use Rattle.scmi_c.proofs.Areas.{room-is, was-written}
 use Rattle.scmi_c.proofs.area.put_answer.Goals as goal
 
 pub returns-in-Reply-clause-reply : goal.returns-in-Reply-clause-reply

@@ -5,7 +5,7 @@ use Rattle.scmi_core.proofs.Room.{valid_channel}
 use Rattle.scmi_c.specs.Calls.{IsAskedAbout}
 use Rattle.scmi_c.specs.Channel.{HasSize}
 use Rattle.scmi_c.specs.Standing.{board_of}
-use Rattle.scmi_c.proofs.AreaIn.{sized}
+use Rattle.scmi_c.proofs.Areas.{sized}
 use Rattle.scmi_c.proofs.Keeping.{askable}
 use Rattle.scmi_c.proofs.ask_in.scmi_ask_in.Goals as goal
 

@@ -6,7 +6,7 @@ use Rattle.scmi_core.proofs.Room.{valid_channel}
 use Rattle.scmi_c.specs.Calls.{IsAskedAbout}
 use Rattle.scmi_c.specs.Standing.{board_of}
 use Rattle.scmi_c.specs.Words.{frame_in}
-use Rattle.scmi_c.proofs.AreaIn.{sized}
+use Rattle.scmi_c.proofs.Areas.{sized}
 use Rattle.scmi_c.proofs.Keeping.{askable}
 use Rattle.scmi_c.proofs.ask_words.scmi_ask_words.Goals as goal
 

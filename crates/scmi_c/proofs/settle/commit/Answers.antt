@@ -4,7 +4,7 @@ use Rattle.scmi_plan.specs.Board.{channel_of}
 use Rattle.scmi_c.specs.Kept.{Asked, IsAskable, Kept, asked_of}
 use Rattle.scmi_c.specs.Standing.{Held, board_of}
 use Rattle.scmi_c.proofs.Answering.{some-and}
-use Rattle.scmi_c.proofs.AreaIn.{committed-in}
+use Rattle.scmi_c.proofs.Areas.{committed-in}
 use Rattle.scmi_c.proofs.Keeping.{effect-is, effect-numbers, kept-of}
 use Rattle.scmi_c.proofs.settle.commit.Goals as goal
 

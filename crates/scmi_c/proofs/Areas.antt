@@ -2,7 +2,7 @@
 use Rattle.std.proofs.Common.{rules, ◌≡◌, ◌⊎◌, inl, inr, ℕ, ◌-◌, ◌/◌, ◌%◌, ◌==◌, ◌≤◌, ◌&&◌, Bool, true, false, if◌then◌else◌, List, [], ◌∷◌, length, slice_get, nat_le, Option, Some, None, Result, Ok, Err, OnOk, is_none, sym, subst, ap, refl, ◌∙◌, arith}
 use Rattle.std.specs.Prelude.{⊤}
 use Rattle.std.specs.List.{All}
-use Rattle.std.proofs.lemmas.Bool.{and_from, and_parts, eq-eqb, le-leb, leb-true}
+use Rattle.std.proofs.lemmas.Bool.{and_from, eq-eqb, le-leb}
 use Rattle.std.proofs.lemmas.List.Elements.{All-head, All-drop}
 use Rattle.scmi_codec.specs.Area.{area_after_answer, frame_waiting, header_at, length_at, message_of, status_at, is_well_formed_within, waiting_within}
 use Rattle.scmi_codec.specs.declared.channel_area.ChannelAreaError.{ChannelAreaError}
@@ -144,14 +144,6 @@ one-word (Good m) reply is =
     let same : reply ≡ message_with m.header failed_words = search rules in
     ap (λ (r : Message). length r.payload.items) same
 one-word (Malformed len header) reply is = absurd (cc)
-
-pub failed-in : (area new : List ℕ) (frame : Frame) (reply : Message) → is_channel_size (length area) ≡ true → Reply reply ≡ failed_answer frame
-    → (length reply.payload.items ≤ capacity area → new ≡ area_after_answer (Reply reply) area)
-    → new ≡ area_after_answer (failed_answer frame) area
-failed-in area new frame reply size is written =
-    let one = one-word frame reply is in
-    let long : 60 ≤ length area = leb-true 60 (length area) (and_parts (nat_le 60 (length area)) (nat_le (length area) 284 && (length area % 4 == 0)) size).0 in
-    written (omega (arith, one, long)) ∙ ap (λ answer. area_after_answer answer area) is
 
 -- MESSAGES
 
