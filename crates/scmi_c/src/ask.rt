@@ -1,5 +1,5 @@
 //! Commands that change no hardware are executed; the others are asked about.
-ghost use Rattle.std.specs.Prelude.{◌≡◌, ◌≢◌, ◌↔◌, ◌⊎◌, ◌≤◌, Some, None, IsSomeAnd, List, option_map};
+ghost use Rattle.std.specs.Prelude.{◌≡◌, ◌≢◌, ◌↔◌, ◌⊎◌, Some, None, IsSomeAnd, List, option_map};
 ghost use Rattle.scmi_codec.specs.Area.{frame_waiting};
 ghost use Rattle.scmi_codec.specs.declared.area.TheConstants.{AREA_BYTES};
 ghost use Rattle.scmi_core.specs.Effect.{effect_after};

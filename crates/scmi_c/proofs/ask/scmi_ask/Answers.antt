@@ -5,7 +5,7 @@ use Rattle.scmi_c.specs.Calls.{IsAskedAbout}
 use Rattle.scmi_c.specs.Standing.{board_of}
 use Rattle.scmi_c.proofs.Codes.{lacks-agent}
 use Rattle.scmi_c.proofs.Keeping.{askable}
-use Rattle.scmi_c.proofs.hardware.scmi_ask.Goals as goal
+use Rattle.scmi_c.proofs.ask.scmi_ask.Goals as goal
 
 pub invariant_of-seat : goal.invariant_of-seat
 invariant_of-seat c =
