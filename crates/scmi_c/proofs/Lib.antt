@@ -6,6 +6,7 @@ mod Codes
 mod Areas
 mod Keeping
 mod Driving
+mod HistoryLaws
 mod WordReplies
 pub mod TableLemmas
 mod TableExamples
