@@ -8,9 +8,8 @@ ghost use Rattle.scmi_c.specs.Driven.{Drives, Says};
 ghost use Rattle.scmi_c.specs.Kept.{IsUnasked};
 ghost use Rattle.scmi_c.specs.declared.code.TheConstants.{DONE, NOTHING, NO_PLATFORM, WRONG_SIZE};
 
-use crate::code::{NO_PLATFORM, code};
+use crate::commit_in::{scmi_commit_in, scmi_fail_in};
 use crate::handle::Handle;
-use crate::settle::{commit, fail};
 use scmi_codec::AREA_BYTES;
 use std::alloc::Global;
 
@@ -48,12 +47,7 @@ pub extern "C" fn scmi_commit(
     ensures kept { result ≢ DONE →
         (platform.new.value ≡ platform.old.value) × (area.new ≡ area.old) }
 {
-    let Some(mut desk) = platform.take(alloc) else {
-        return NO_PLATFORM;
-    };
-    let given = commit(&mut desk, area);
-    platform.put(desk);
-    code(given)
+    scmi_commit_in(alloc, platform, area)
 }
 
 /// Answers the command that `scmi_ask` gave a change of, which the hardware refused, by
@@ -90,10 +84,5 @@ pub extern "C" fn scmi_fail(
     ensures kept { result ≢ DONE →
         (platform.new.value ≡ platform.old.value) × (area.new ≡ area.old) }
 {
-    let Some(mut desk) = platform.take(alloc) else {
-        return NO_PLATFORM;
-    };
-    let given = fail(&mut desk, area);
-    platform.put(desk);
-    code(given)
+    scmi_fail_in(alloc, platform, area)
 }
