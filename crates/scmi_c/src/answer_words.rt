@@ -53,7 +53,7 @@ pub extern "C" fn scmi_answer_words(
     };
     let seat: &mut Desk = &mut desk;
     let given = match seat.held.check_words(agent, message.len(), reply.len()) {
-        Ok(_) => {
+        Ok(()) => {
             answer(
                 &mut seat.held,
                 &mut seat.exchange,

@@ -2,7 +2,6 @@
 ghost use Rattle.std.specs.Prelude.{◌≡◌, ◌≢◌, ◌↔◌, ◌+◌, ◌<◌, ◌≤◌, ◌∷◌, ◌++◌, None, List, length, drop, IfOk, IfErr, OnOk, OnErr, Ok, Err, ◌⊎◌};
 ghost use Rattle.scmi_codec.specs.declared.payload.TheConstants.{PAYLOAD_WORDS};
 ghost use Rattle.scmi_plan.specs.Agent.{IsAgent};
-ghost use Rattle.scmi_plan.specs.Board.{channel_of};
 ghost use Rattle.scmi_plan.specs.Plan.{IsValid};
 ghost use Rattle.scmi_core.specs.Effect.{effect_after};
 ghost use Rattle.scmi_core.specs.declared.event.Event.{Event};
@@ -21,11 +20,10 @@ use scmi_core::Effect;
 
 impl Held {
     /// Refuses a number that is no agent's, and then words that are no message of the agent's
-    /// channel, or a place that has not room for each reply. Gives the most payload words.
-    pub fn check_words(&self, agent: u32, words: usize, room: usize) -> Result<usize, Refusal>
+    /// channel, or a place that has not room for each reply.
+    pub fn check_words(&self, agent: u32, words: usize, room: usize) -> Result<(), Refusal>
         ensures ok { OnOk result (FitsWords agent words room self.now) }
-        ensures most { IfOk result (λ most. most ≡ (channel_of (board_of self.now) agent).words) }
-        ensures few { IfOk result (λ most. most ≤ PAYLOAD_WORDS) }
+        ensures few { OnOk result (words ≤ 1 + PAYLOAD_WORDS) }
         ensures valid { IsValid (board_of self.now) }
         ensures no_agent { (result ≡ Err Refusal.NoAgent) ↔ LacksAgent agent self.now }
         ensures wrong_size { (result ≡ Err Refusal.WrongSize)
@@ -36,7 +34,7 @@ impl Held {
         if words < 1 || words > 1 + most || room < 1 + most {
             return Err(Refusal::WrongSize);
         }
-        Ok(most)
+        Ok(())
     }
 
     /// The bytes of the areas of the channels of an agent of the board.
@@ -98,7 +96,7 @@ pub fn ask(
     ensures err { OnErr result (held.new ≡ held.old) }
     ensures kept { OnErr result ((reply.new ≡ reply.old) × (count.new ≡ count.old)) }
 {
-    let _ = held.check_words(agent, message.len(), reply.len())?;
+    held.check_words(agent, message.len(), reply.len())?;
     read_words(message, &mut exchange.frame);
     let effect = held.effect_of(agent, &exchange.frame)?;
     if effect.is_none() {
