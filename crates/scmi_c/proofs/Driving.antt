@@ -19,7 +19,7 @@ use Rattle.scmi_core.specs.declared.pending_set.Setting.TheVariants as setting
 use Rattle.scmi_core.proofs.EffectsMade.{asks-push}
 use Rattle.scmi_c.specs.Calls.{HasHappened}
 use Rattle.scmi_c.specs.Driven.{Drives, IsDriven, IsUnsaid, failure_after, failures, failures_from, refused_of}
-use Rattle.scmi_c.specs.Said.{next_effect}
+use Rattle.scmi_core.specs.Said.{next_effect}
 use Rattle.scmi_c.specs.Standing.{Held, IsCount, StandsAt, board_of}
 
 -- one more event, at which what belongs to it was said

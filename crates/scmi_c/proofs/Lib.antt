@@ -1,6 +1,5 @@
 pub mod HandleValues
 pub mod LooseValues
-pub mod SaidValues
 mod Answering
 mod Codes
 mod Areas

@@ -10,5 +10,4 @@ pub mod Tables
 pub mod Effect
 pub mod Numbers
 pub mod Plain
-pub mod Said
 pub mod Driven

@@ -14,9 +14,8 @@ ghost use Rattle.scmi_c.specs.Driven.{Drives, IsDriven, IsUnsaid};
 ghost use Rattle.scmi_c.specs.Standing.{IsCount, IsCounted, LacksAgent, StandsAt, board_of};
 
 use crate::refusal::Refusal;
-use crate::said::{Said, Saying};
 use scmi_codec::{Frame, Message};
-use scmi_core::{Answered, CoreError, Effect, Platform, may_change};
+use scmi_core::{Answered, CoreError, Effect, Platform, Said, Saying, may_change};
 use scmi_plan::Plan;
 use std::marker::Model;
 

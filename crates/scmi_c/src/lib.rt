@@ -34,7 +34,6 @@ mod open_tables;
 mod refusal;
 mod restart;
 mod rows;
-mod said;
 mod send;
 mod settle;
 mod settle_words;

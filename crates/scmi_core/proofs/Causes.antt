@@ -31,7 +31,7 @@ use Rattle.scmi_core.specs.declared.event.Event.TheVariants.{Command, Advance, S
 use Rattle.scmi_core.specs.declared.pending_set.PendingSet.{PendingSet}
 use Rattle.scmi_core.specs.Deed.{Success, fold_with_prefix, success_at, success_of, success_with}
 use Rattle.scmi_core.specs.History.{deed_after, deeds}
-use Rattle.scmi_core.specs.Laws.{HasCause, HasIntegrity, IsKeptOn, KeepsOn, change_asked, is_off, may_after, resource_of}
+use Rattle.scmi_core.specs.Laws.{HasCause, HasIntegrity, IsKeptOn, KeepsOn, change_asked, may_after, resource_of}
 use Rattle.scmi_core.specs.Legal.{CanFollow, IsLegal}
 use Rattle.scmi_core.specs.Outbox.{situation_after}
 use Rattle.scmi_core.specs.Pending.{acceptance, pending_sets, rate_set, state_set, unwanted}

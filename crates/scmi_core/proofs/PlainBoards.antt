@@ -1,5 +1,5 @@
 -- A board that keeps nothing, denies nothing and shares nothing out gives what it gives if no board says such things.
-use Rattle.std.proofs.Common.{◌≡◌, ◌⊎◌, inl, inr, ℕ, suc, ◌+◌, ◌-◌, ◌<◌, ◌==◌, ◌&&◌, ◌≤◌, nat_lt, Bool, true, false, not, if◌then◌else◌, List, [], ◌∷◌, length, get_or, Option, Some, None, refl, sym, ap, ◌∙◌, arith}
+use Rattle.std.proofs.Common.{◌≡◌, ◌⊎◌, inl, inr, ℕ, suc, ◌+◌, ◌-◌, ◌<◌, ◌==◌, ◌&&◌, ◌≤◌, nat_lt, Bool, true, false, not, if◌then◌else◌, List, [], ◌∷◌, length, Some, None, refl, ap, ◌∙◌, arith}
 use Rattle.std.specs.Int.{bit_at}
 use Rattle.std.specs.List.{filter}
 use Rattle.std.proofs.lemmas.Bool.Decides.{leb_tells, nat_tests}
@@ -11,11 +11,11 @@ use Rattle.scmi_plan.specs.declared.resource.Resource.TheVariants as resource
 use Rattle.scmi_plan.specs.declared.scope.Scope.{Scope}
 use Rattle.scmi_plan.specs.declared.scope.Scope.TheVariants as scope
 use Rattle.scmi_base.proofs.Masks.{no_bits}
-use Rattle.scmi_base.specs.Permission.{is_allowed, permission}
+use Rattle.scmi_base.specs.Permission.{is_allowed}
 use Rattle.scmi_power.specs.PowerReply.{PowerView, may_set, power_reply, set_reply, state_off}
 use Rattle.scmi_clock.specs.ClockReply.{ClockView, clock_reply, config_checks}
 use Rattle.scmi_core.specs.Deed.{fold_with_prefix}
-use Rattle.scmi_core.specs.Pending.{load_beside, sets_by}
+use Rattle.scmi_core.specs.Pending.{sets_by}
 use Rattle.scmi_core.specs.PlainBoards.{AllowsAll, ConfiguresByPermission, ResetsToAll, SetsByPermission, SharesAll}
 use Rattle.scmi_core.specs.declared.pending_set.PendingSet.{PendingSet}
 

@@ -16,7 +16,6 @@ use Rattle.scmi_codec.specs.declared.frame.Frame.TheVariants.{Good, Malformed}
 use Rattle.scmi_plan.specs.Board.{Board}
 use Rattle.scmi_plan.specs.Plan.{IsValid}
 use Rattle.scmi_base.specs.Permission.{is_allowed}
-use Rattle.scmi_plan.specs.declared.scope.Scope.{Scope}
 use Rattle.scmi_power.specs.PowerTable.{state_at, is_subscribed}
 use Rattle.scmi_clock.specs.ClockTable.{rate_at, enabled_at}
 use Rattle.scmi_core.specs.declared.pending_set.PendingSet.{PendingSet}

@@ -1,5 +1,5 @@
 -- Board B with rules of its own, for worked examples.
-use Rattle.std.specs.Prelude.{false, [], ◌∷◌, replicate}
+use Rattle.std.specs.Prelude.{false, ◌∷◌, replicate}
 use Rattle.scmi_plan.specs.Board.{Board, nothing_denied, whole_channel}
 use Rattle.scmi_core.specs.BoardB.{board_b}
 

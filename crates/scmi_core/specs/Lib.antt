@@ -11,6 +11,7 @@ pub mod History
 pub mod Effect
 pub mod Asked
 pub mod Driven
+pub mod Said
 pub mod Agents
 pub mod Legal
 pub mod Bounds

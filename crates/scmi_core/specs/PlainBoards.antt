@@ -1,5 +1,5 @@
 -- What the definitions give of a board that keeps nothing, denies nothing and shares nothing out: what they give if no board says such things.
-use Rattle.std.specs.Prelude.{◌≡◌, ◌==◌, ◌&&◌, ℕ, nat_lt, Bool, true, if◌then◌else◌, List, [], ◌∷◌, length, Option, Some, None}
+use Rattle.std.specs.Prelude.{◌≡◌, ◌==◌, ◌&&◌, ℕ, nat_lt, true, if◌then◌else◌, List, [], ◌∷◌, length, Some, None}
 use Rattle.scmi_codec.specs.Reply.{bit_0, reply_unless}
 use Rattle.scmi_codec.specs.declared.base_command.BaseCommand.TheVariants.{ResetAgent}
 use Rattle.scmi_codec.specs.declared.power_command.PowerCommand.TheVariants as power

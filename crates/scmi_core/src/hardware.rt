@@ -10,7 +10,7 @@ pub struct Fault;
 
 /// The power domains and clocks of a board, as a driver switches them. Contracts see whether it may
 /// refuse a change at all, and what it may have been asked for, in order, each change made or
-/// refused: of a driver that keeps a list, that list alone.
+/// refused: of a driver that keeps a list, that list alone. `Listed` keeps it of any driver.
 pub trait Hardware {
     ghost REFUSES: { Bool };
 

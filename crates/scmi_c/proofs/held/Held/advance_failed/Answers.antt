@@ -1,6 +1,6 @@
 use Rattle.std.proofs.Common.{rules, option_map, ap, ◌∙◌}
 use Rattle.scmi_core.specs.Asked.{Refused, and_asked}
-use Rattle.scmi_c.specs.Said.{next_effect}
+use Rattle.scmi_core.specs.Said.{next_effect}
 use Rattle.scmi_c.specs.Standing.{Held}
 use Rattle.scmi_c.proofs.Driving.{drives_failed}
 use Rattle.scmi_c.proofs.held.Held.advance_failed.Goals as goal

@@ -1,4 +1,4 @@
-use Rattle.std.proofs.Common.{◌≡◌, length, take}
+use Rattle.std.proofs.Common.{◌≡◌, take}
 use Rattle.scmi_core.proofs.message_ring.MessageRing.is_same.Given as goal
 
 abbrev pub invariant-messages : goal.invariant-messages

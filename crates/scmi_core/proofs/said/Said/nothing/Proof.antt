@@ -23,12 +23,12 @@ use denote.Triple.Entry.{alive}
 use denote.Triple.Spec.{Meets, triple_of}
 use denote.Triple.Table.{entered}
 use denote.Triple.Walked.{says, Stays, walk_of, ends_at, walk_Meets}
-use Rattle.scmi_c.proofs.SaidValues.{none, none_made}
-use Rattle.scmi_c.specs.contracts.said.Said as Said
-use Rattle.scmi_c.specs.contracts.said.Said.nothing as F
-use Rattle.scmi_c.specs.contracts.said.Said.nothing.Key.{name as #self}
-use Rattle.scmi_c.proofs.said.Said.nothing.Statement as stated
-use Rattle.scmi_c.proofs.said.Said.nothing.Code as code
+use Rattle.scmi_core.proofs.SaidValues.{none, none_made}
+use Rattle.scmi_core.specs.contracts.said.Said as Said
+use Rattle.scmi_core.specs.contracts.said.Said.nothing as F
+use Rattle.scmi_core.specs.contracts.said.Said.nothing.Key.{name as #self}
+use Rattle.scmi_core.proofs.said.Said.nothing.Statement as stated
+use Rattle.scmi_core.proofs.said.Said.nothing.Code as code
 
 abbrev function : Fn
 function = code.function

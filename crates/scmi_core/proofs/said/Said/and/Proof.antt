@@ -25,15 +25,15 @@ use denote.Triple.Entry.{alive}
 use denote.Triple.Spec.{Meets, triple_of}
 use denote.Triple.Table.{entered}
 use denote.Triple.Walked.{says, Stays, stay_dropped, walk_of, ends_at, walk_Meets, Goes-dropped}
-use Rattle.scmi_c.proofs.SaidValues.{none, none_made}
-use Rattle.scmi_c.specs.contracts.said.Said as Said
-use Rattle.scmi_c.specs.contracts.said.Saying as Saying
+use Rattle.scmi_core.proofs.SaidValues.{none, none_made}
+use Rattle.scmi_core.specs.contracts.said.Said as Said
+use Rattle.scmi_core.specs.contracts.said.Saying as Saying
 use Rattle.scmi_core.specs.Asked.{and_asked}
-use Rattle.scmi_c.specs.Said.{ask_of}
-use Rattle.scmi_c.specs.contracts.said.Said.and as F
-use Rattle.scmi_c.specs.contracts.said.Said.and.Key.{name as #self}
-use Rattle.scmi_c.proofs.said.Said.and.Statement as stated
-use Rattle.scmi_c.proofs.said.Said.and.Code as code
+use Rattle.scmi_core.specs.Said.{ask_of}
+use Rattle.scmi_core.specs.contracts.said.Said.and as F
+use Rattle.scmi_core.specs.contracts.said.Said.and.Key.{name as #self}
+use Rattle.scmi_core.proofs.said.Said.and.Statement as stated
+use Rattle.scmi_core.proofs.said.Said.and.Code as code
 
 abbrev function : Fn
 function = code.function

@@ -4,7 +4,8 @@ ghost use Rattle.std.specs.Prelude.{◌≡◌, [], List};
 ghost use base.Fml.{ftrue};
 ghost use Rattle.scmi_core.specs.Asked.{Asked};
 
-use scmi_core::{Effect, Platform};
+use crate::effect::Effect;
+use crate::platform::Platform;
 use std::marker::Model;
 
 /// What has been said of the hardware, in order: each change that it made or refused.
@@ -32,7 +33,7 @@ pub enum Saying<'a> {
 
 impl Said {
     ghost use Rattle.scmi_core.specs.Asked.{and_asked};
-    ghost use Rattle.scmi_c.specs.Said.{ask_of};
+    ghost use Rattle.scmi_core.specs.Said.{ask_of};
 
     /// Nothing was said yet.
     #[inline(always)]

@@ -4,8 +4,8 @@ use Rattle.scmi_core.specs.Asked.{Asked, Made, Refused}
 use Rattle.scmi_core.specs.Effect.{setting_effect}
 use Rattle.scmi_core.specs.Standing.{Standing}
 use Rattle.scmi_core.specs.declared.effect.Effect.{Effect}
-use Rattle.scmi_c.specs.declared.said.Saying.{Saying}
-use Rattle.scmi_c.specs.declared.said.Saying.TheVariants as saying
+use Rattle.scmi_core.specs.declared.said.Saying.{Saying}
+use Rattle.scmi_core.specs.declared.said.Saying.TheVariants as saying
 
 -- what the first of a platform's pending sets is to change when it completes, if a set is pending
 abbrev pub next_effect : Standing → Option Effect
