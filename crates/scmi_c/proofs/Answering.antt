@@ -1,17 +1,11 @@
 -- The header of a reply, which is that of its message.
-use Rattle.std.proofs.Common.{rules, ◌≡◌, ℕ, ◌-◌, ◌/◌, ◌%◌, ◌==◌, Bool, true, false, if◌then◌else◌, List, Option, Some, None, IsSomeAnd, sym, subst, ap, refl, ◌∙◌}
+use Rattle.std.proofs.Common.{rules, ◌≡◌, ℕ, Bool, true, false, if◌then◌else◌, Option, Some, IsSomeAnd, sym, subst}
 use Rattle.scmi_codec.specs.declared.message.Message.{Message}
-use Rattle.scmi_codec.specs.declared.frame.Frame.{Frame}
-use Rattle.scmi_codec.specs.declared.frame.Frame.TheVariants.{Good, Malformed}
+use Rattle.scmi_codec.specs.declared.frame.Frame.TheVariants.{Good}
 use Rattle.scmi_codec.specs.declared.frame.Answer.TheVariants.{Reply, ChannelError}
 use Rattle.scmi_plan.specs.Board.{Board}
 use Rattle.scmi_core.specs.Reply.{answer_in, fits_channel, reply_in}
 use Rattle.scmi_core.specs.Situation.{Situation}
-use Rattle.scmi_core.specs.History.{answer_to, answer_with, deeds}
-use Rattle.scmi_core.specs.Outbox.{situation_after}
-use Rattle.scmi_core.specs.declared.answered.Answered.{Answered}
-use Rattle.scmi_core.specs.declared.answered.Answered.TheVariants as answered
-use Rattle.scmi_core.specs.declared.event.Event.{Event}
 
 -- what holds of the value that there is
 pub some-and : {A : Type 0} (o : Option A) (x : A) (P : A → Type 0) → o ≡ Some x → P x → IsSomeAnd o P

@@ -1,10 +1,10 @@
 -- Replies as words.
-use Rattle.std.proofs.Common.{rules, ◌≡◌, ◌≢◌, ◌<◌, ◌≤◌, ℕ, ◌+◌, ◌%◌, ◌^◌, ◌==◌, ◌&&◌, Bool, true, false, if◌then◌else◌, List, [], ◌∷◌, ◌++◌, length, drop, slice_index, Option, Some, None, option_map, sym, subst, ap, refl, ◌∙◌, arith, nat_le}
+use Rattle.std.proofs.Common.{◌≡◌, ◌≢◌, ◌<◌, ◌≤◌, ℕ, ◌+◌, ◌%◌, ◌^◌, ◌==◌, ◌&&◌, Bool, true, false, if◌then◌else◌, List, [], ◌∷◌, ◌++◌, length, drop, None, option_map, sym, subst, ap, refl, ◌∙◌, arith, nat_le}
 use Rattle.std.proofs.lemmas.Bool.{and_parts, le-leb, leb-true}
 use Rattle.scmi_codec.specs.Area.{message_of}
 use Rattle.scmi_codec.specs.ChannelArea.{channel_words, is_channel_size}
 use Rattle.scmi_codec.specs.Command.{command_of}
-use Rattle.scmi_codec.specs.Header.{header_of, header_word}
+use Rattle.scmi_codec.specs.Header.{header_word}
 use Rattle.scmi_codec.specs.declared.frame.Frame.{Frame}
 use Rattle.scmi_codec.specs.declared.frame.Frame.TheVariants.{Good, Malformed}
 use Rattle.scmi_codec.specs.declared.frame.Answer.{Answer}
@@ -17,8 +17,8 @@ use Rattle.scmi_core.specs.Channels.{IsAnswerWithin}
 use Rattle.scmi_core.specs.Deed.{success_of}
 use Rattle.scmi_core.specs.Effect.{effect_after, effect_of}
 use Rattle.scmi_core.specs.History.{answer_to, answer_with, deeds}
-use Rattle.scmi_core.specs.Outbox.{failed_words, message_with, situation_after}
-use Rattle.scmi_core.specs.Reply.{answer_in, failed_answer, fits_channel, reply_in, reply_words}
+use Rattle.scmi_core.specs.Outbox.{situation_after}
+use Rattle.scmi_core.specs.Reply.{failed_answer, fits_channel, reply_in, reply_words}
 use Rattle.scmi_core.specs.Value.{change_of}
 use Rattle.scmi_core.specs.declared.answered.Answered.{Answered}
 use Rattle.scmi_core.specs.declared.answered.Answered.TheVariants as answered
@@ -26,7 +26,7 @@ use Rattle.scmi_core.specs.declared.event.Event.{Event}
 use Rattle.scmi_core.specs.declared.event.Event.TheVariants.{Command as Called}
 use Rattle.scmi_c.proofs.Answering.{reply-header}
 use Rattle.scmi_c.proofs.Areas.{answer-within, one-word}
-use Rattle.scmi_c.specs.Words.{IsWritten, count_of, frame_in, words_after}
+use Rattle.scmi_c.specs.Words.{IsWritten, count_of, words_after}
 
 -- a reply with this header word was written
 written-reply : (answer : Answer) (reply : Message) (header count : ℕ) (before after : List ℕ) → Reply reply ≡ answer → length reply.payload.items < length before

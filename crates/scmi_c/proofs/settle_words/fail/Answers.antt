@@ -1,4 +1,4 @@
-use Rattle.std.proofs.Common.{rules, ◌≡◌, ◌≤◌, ◌+◌, length}
+use Rattle.std.proofs.Common.{rules, ◌≤◌, ◌+◌, length}
 use Rattle.scmi_codec.specs.ChannelArea.{channel_words}
 use Rattle.scmi_c.specs.Kept.{Asked, IsAskable, asked_of}
 use Rattle.scmi_c.proofs.Answering.{some-and}

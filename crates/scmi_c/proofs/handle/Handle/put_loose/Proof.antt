@@ -1,5 +1,5 @@
 -- `put_loose` writes the pointer into a handle of nothing.
-use Rattle.std.proofs.Common.{◌≡◌, ℕ, List, [], ◌∷◌, ◌++◌, refl, sym, subst, lit<}
+use Rattle.std.proofs.Common.{◌≡◌, List, [], ◌∷◌, ◌++◌, refl, sym, subst}
 use mir.Val.{Val, vptr, vunit}
 use base.Fml.{ftrue, flft}
 use base.Fraction.{full_share}

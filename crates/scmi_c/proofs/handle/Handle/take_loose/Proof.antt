@@ -1,5 +1,5 @@
 -- `take_loose` reads the pointer, and where it is not null leaves null and has the box.
-use Rattle.std.proofs.Common.{◌≡◌, ℕ, List, [], ◌∷◌, ◌++◌, refl, sym, subst, lit<}
+use Rattle.std.proofs.Common.{◌≡◌, List, [], ◌∷◌, ◌++◌, refl, sym, subst, lit<}
 use mir.Syntax.{impl, tnil, dnil}
 use mir.Val.{Val, vptr, vcons, vnil}
 use base.Fml.{ftrue, flft}
