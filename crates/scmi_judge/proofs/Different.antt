@@ -12,7 +12,6 @@ use Rattle.scmi_plan.specs.Board.{Board}
 use Rattle.scmi_codec.specs.declared.message.Message.{Message}
 use Rattle.scmi_judge.specs.Guess.{GoesOn, IsReal}
 use Rattle.scmi_judge.specs.Guesses.{AreDifferent, AreFound, AreMany, FindsMany, IsIn, StayFound}
-use Rattle.scmi_judge.specs.Unseen.{event_of}
 use Rattle.scmi_judge.specs.declared.entry.Entry.{Entry}
 use Rattle.scmi_judge.specs.declared.guess.Guess.{Guess}
 use Rattle.scmi_judge.specs.declared.unseen.Unseen.{Unseen}
@@ -179,13 +178,13 @@ first-of (m ∷ ms) some = (m, refl)
 
 -- a guess that another moved on to by a step, and that was not there before
 module _ (may : Unseen) (g made : Guess) (step : Step)
-    (goes : GoesOn may g (event_of step) made) (other : made ≢ g) (tried left : List Guess) (untried : ¬ (IsIn made tried)) (unleft : ¬ (IsIn made left))
+    (goes : GoesOn may g step made) (other : made ≢ g) (tried left : List Guess) (untried : ¬ (IsIn made tried)) (unleft : ¬ (IsIn made left))
     (board : Board) (entries : List Entry) (found : AreFound may board entries (tried ++ g ∷ []) left) where
   real : IsReal may board entries g
   real = (All-pop (IsReal may board entries) (tried ++ g ∷ []) tried (Some g) refl found.tried_real).1
 
   new-real : IsReal may board entries made
-  new-real = moved-real may g made (event_of step) goes board entries real
+  new-real = moved-real may g made step goes board entries real
 
   nowhere : ¬ (IsIn made (tried ++ g ∷ []))
   nowhere = not-in-more tried g made untried other

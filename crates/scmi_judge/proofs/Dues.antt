@@ -1,12 +1,11 @@
 -- What was due in place of an entry.
-use Rattle.std.proofs.Common.{◌≡◌, List, ◌∷◌, ◌++◌, subst}
+use Rattle.std.proofs.Common.{◌≡◌, List, ◌∷◌, subst}
 use Rattle.scmi_plan.specs.Board.{Board}
-use Rattle.scmi_codec.specs.declared.frame.Answer.{Answer as Answers}
 use Rattle.scmi_judge.specs.Behind.{Behind, HasLegalHistory}
 use Rattle.scmi_judge.specs.Due.{IsDue, in_place}
 use Rattle.scmi_judge.specs.Guess.{Gives, IsReal}
 use Rattle.scmi_judge.specs.declared.entry.Entry.{Entry}
-use Rattle.scmi_judge.specs.declared.entry.Entry.TheVariants.{Answered, Delivered}
+use Rattle.scmi_judge.specs.declared.entry.Entry.TheVariants.{Answered, Asked, Delivered, GivenUp, Replied}
 use Rattle.scmi_judge.specs.declared.guess.Guess.{Guess}
 use Rattle.scmi_judge.specs.declared.unseen.Unseen.{Unseen}
 use Rattle.scmi_judge.specs.declared.verdict.Verdict.{Verdict}
@@ -21,13 +20,19 @@ due-there (verdict.Answer due) (Answered a frame seen) Does is = is
 due-there (verdict.Answer due) (Delivered a seen) Does is = tt
 due-there (verdict.Message due) (Answered a frame seen) Does is = tt
 due-there (verdict.Message due) (Delivered a seen) Does is = is
+due-there (verdict.Answer due) (Asked k a frame) Does is = tt
+due-there (verdict.Answer due) (Replied k a frame seen) Does is = is
+due-there (verdict.Answer due) (GivenUp k) Does is = tt
+due-there (verdict.Message due) (Asked k a frame) Does is = tt
+due-there (verdict.Message due) (Replied k a frame seen) Does is = tt
+due-there (verdict.Message due) (GivenUp k) Does is = tt
 
 -- what a guess gives that may be behind some entries has a history with these
 given-legal : (may : Unseen) (board : Board) (entries : List Entry) (entry : Entry) (g new : Guess) → Gives may g entry new → IsReal may board entries g
     → HasLegalHistory may board (entry ∷ entries)
 given-legal may board entries entry g new gives real =
     let some = gives.some board entries real.0 real.1 in
-    (real.0 ++ some.0, some.1.legal, Behind.shown real.1.behind entry some.0 some.1.fits)
+    (some.0, some.1.legal, Behind.shown real.1.behind entry some.0 some.1.fits)
 
 -- so it was due
 pub due-given : (may : Unseen) (board : Board) (entries : List Entry) (v : Verdict) (entry given : Entry) (g copy new : Guess) → given ≡ in_place entry v → copy ≡ g

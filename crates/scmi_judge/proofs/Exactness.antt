@@ -1,87 +1,80 @@
 -- What an exact set of platforms says of one more entry.
-use Rattle.std.proofs.Common.{◌≡◌, ◌≢◌, ◌⊎◌, inl, inr, List, [], ◌∷◌, ◌++◌, Some, refl, sym, ap, ◌∙◌, subst}
-use Rattle.std.proofs.lemmas.List.{append_assoc}
+use Rattle.std.proofs.Common.{◌≡◌, ◌≢◌, ◌⊎◌, inl, inr, List, [], ◌∷◌, ◌++◌, Some, refl, sym, subst}
 use Rattle.std.proofs.lemmas.List.Elements.{All-cons, All-head, All-nil, All-pop, All-push}
 use Rattle.scmi_plan.specs.Board.{Board}
-use Rattle.scmi_core.specs.declared.event.Event.{Event}
 use Rattle.scmi_core.specs.Legal.{IsLegal}
-use Rattle.scmi_core.proofs.Legal.{IsLegal-front}
 use Rattle.scmi_judge.specs.Behind.{Behind, Fits, HasLegalHistory}
 use Rattle.scmi_judge.specs.Exact.{AreClosed, AreExact, AreGiven, EndsShown, HaveGiven, HaveKept}
 use Rattle.scmi_judge.specs.Guess.{CanShow, Gives, GivesNot, IsAmong, IsGuess, IsReal}
+use Rattle.scmi_judge.specs.Moves.{Move, history}
 use Rattle.scmi_judge.specs.declared.entry.Entry.{Entry}
 use Rattle.scmi_judge.specs.declared.guess.Guess.{Guess}
 use Rattle.scmi_judge.specs.declared.unseen.Unseen.{Unseen}
 use Rattle.scmi_judge.specs.Guesses.{IsGiven, IsIn}
-use Rattle.scmi_judge.proofs.Among.{among-either, among-grown, among-last, among-none, behind-among}
+use Rattle.scmi_judge.proofs.Among.{among-either, among-grown, among-last, among-none, behind-among, legal-before, legal-front}
 use Rattle.scmi_judge.proofs.Guessing.{guess-legal}
-
--- the first events of a legal history are legal
-pub legal-front : (board : Board) (h more : List Event) → IsLegal board (h ++ more) → IsLegal board h
-legal-front board h more legal =
-    record { each = λ before after event is. legal.each before (after ++ more) event (ap (λ k. k ++ more) is ∙ append_assoc before (event ∷ after) more) }
 
 -- guesses that are tried with an entry, one after the other
 pub given-start : (may : Unseen) (guesses : List Guess) (entry : Entry) → AreGiven may guesses entry [] guesses
-given-start may guesses entry = record { each = λ board entries h events is can. inr is; real = λ board entries real. (All-nil (IsReal may board (entry ∷ entries)), real) }
+given-start may guesses entry = record { each = λ board entries h after is can. inr is; real = λ board entries real. (All-nil (IsReal may board (entry ∷ entries)), real) }
 
 module _ (may : Unseen) (guesses left untried rest : List Guess) (entry : Entry) (g : Guess) (given : AreGiven may guesses entry left untried) (are : untried ≡ rest ++ g ∷ []) where
   pub given-one : (new : Guess) → Gives may g entry new → AreGiven may guesses entry (left ++ new ∷ []) rest
   given-one new gives =
       record {
-        each = λ board entries h events is can. by board entries h events can (given.each board entries h events is can);
+        each = λ board entries h after is can. by board entries h after can (given.each board entries h after is can);
         real = λ board entries real.
             let so_far = given.real board entries real in
             let both = All-pop (IsReal may board entries) untried rest (Some g) are so_far.1 in
             let some = gives.some board entries both.1.0 both.1.1 in (
-              All-push (IsReal may board (entry ∷ entries)) left new so_far.0 (both.1.0 ++ some.0, gives.each board entries both.1.0 some.0 both.1.1 some.1),
+              All-push (IsReal may board (entry ∷ entries)) left new so_far.0 (some.0, gives.each board entries both.1.0 some.0 both.1.1 some.1),
               both.0,
             );
       } where
-        by : (board : Board) (entries : List Entry) (h events : List Event) → CanShow board entries h entry events
-            → IsAmong may board (entry ∷ entries) (h ++ events) left ⊎ IsAmong may board entries h untried
-            → IsAmong may board (entry ∷ entries) (h ++ events) (left ++ new ∷ []) ⊎ IsAmong may board entries h rest
-        by board entries h events can (inl before) = inl (among-grown may board (entry ∷ entries) (h ++ events) left (new ∷ []) before)
-        by board entries h events can (inr is) = at (among-either may board entries h rest g (subst (IsAmong may board entries h) are is)) where
-          at : IsAmong may board entries h rest ⊎ IsGuess may board g entries h → IsAmong may board (entry ∷ entries) (h ++ events) (left ++ new ∷ []) ⊎ IsAmong may board entries h rest
+        by : (board : Board) (entries : List Entry) (h after : List Move) → CanShow board entries h entry after
+            → IsAmong may board (entry ∷ entries) after left ⊎ IsAmong may board entries h untried
+            → IsAmong may board (entry ∷ entries) after (left ++ new ∷ []) ⊎ IsAmong may board entries h rest
+        by board entries h after can (inl before) = inl (among-grown may board (entry ∷ entries) after left (new ∷ []) before)
+        by board entries h after can (inr is) = at (among-either may board entries h rest g (subst (IsAmong may board entries h) are is)) where
+          at : IsAmong may board entries h rest ⊎ IsGuess may board g entries h → IsAmong may board (entry ∷ entries) after (left ++ new ∷ []) ⊎ IsAmong may board entries h rest
           at (inl before) = inr before
-          at (inr last) = inl (among-last may board (entry ∷ entries) (h ++ events) left new (gives.each board entries h events last can))
+          at (inr last) = inl (among-last may board (entry ∷ entries) after left new (gives.each board entries h after last can))
 
   pub given-not : GivesNot may g entry → AreGiven may guesses entry left rest
   given-not not =
       record {
-        each = λ board entries h events is can. by board entries h events can (given.each board entries h events is can);
+        each = λ board entries h after is can. by board entries h after can (given.each board entries h after is can);
         real = λ board entries real.
             let so_far = given.real board entries real in
             (so_far.0, (All-pop (IsReal may board entries) untried rest (Some g) are so_far.1).0);
       } where
-        by : (board : Board) (entries : List Entry) (h events : List Event) → CanShow board entries h entry events
-            → IsAmong may board (entry ∷ entries) (h ++ events) left ⊎ IsAmong may board entries h untried
-            → IsAmong may board (entry ∷ entries) (h ++ events) left ⊎ IsAmong may board entries h rest
-        by board entries h events can (inl before) = inl before
-        by board entries h events can (inr is) = at (among-either may board entries h rest g (subst (IsAmong may board entries h) are is)) where
-          at : IsAmong may board entries h rest ⊎ IsGuess may board g entries h → IsAmong may board (entry ∷ entries) (h ++ events) left ⊎ IsAmong may board entries h rest
+        by : (board : Board) (entries : List Entry) (h after : List Move) → CanShow board entries h entry after
+            → IsAmong may board (entry ∷ entries) after left ⊎ IsAmong may board entries h untried
+            → IsAmong may board (entry ∷ entries) after left ⊎ IsAmong may board entries h rest
+        by board entries h after can (inl before) = inl before
+        by board entries h after can (inr is) = at (among-either may board entries h rest g (subst (IsAmong may board entries h) are is)) where
+          at : IsAmong may board entries h rest ⊎ IsGuess may board g entries h → IsAmong may board (entry ∷ entries) after left ⊎ IsAmong may board entries h rest
           at (inl before) = inr before
-          at (inr last) = absurd (not board entries h events last can)
+          at (inr last) = absurd (not board entries h after last can)
 
 -- one that is left already
 module _ (may : Unseen) (guesses left untried rest : List Guess) (entry : Entry) (g : Guess) (given : AreGiven may guesses entry left untried) (are : untried ≡ rest ++ g ∷ []) where
   given-twice : (made : Guess) → Gives may g entry made → IsIn made left → AreGiven may guesses entry left rest
   given-twice made gives is =
       record {
-        each = λ board entries h events is can. by board entries h events can (given.each board entries h events is can);
+        each = λ board entries h after is can. by board entries h after can (given.each board entries h after is can);
         real = λ board entries real.
             let so_far = given.real board entries real in
             (so_far.0, (All-pop (IsReal may board entries) untried rest (Some g) are so_far.1).0);
       } where
-        by : (board : Board) (entries : List Entry) (h events : List Event) → CanShow board entries h entry events
-            → IsAmong may board (entry ∷ entries) (h ++ events) left ⊎ IsAmong may board entries h untried
-            → IsAmong may board (entry ∷ entries) (h ++ events) left ⊎ IsAmong may board entries h rest
-        by board entries h events can (inl before) = inl before
-        by board entries h events can (inr there) = at (among-either may board entries h rest g (subst (IsAmong may board entries h) are there)) where
-          at : IsAmong may board entries h rest ⊎ IsGuess may board g entries h → IsAmong may board (entry ∷ entries) (h ++ events) left ⊎ IsAmong may board entries h rest
+        by : (board : Board) (entries : List Entry) (h after : List Move) → CanShow board entries h entry after
+            → IsAmong may board (entry ∷ entries) after left ⊎ IsAmong may board entries h untried
+            → IsAmong may board (entry ∷ entries) after left ⊎ IsAmong may board entries h rest
+        by board entries h after can (inl before) = inl before
+        by board entries h after can (inr there) = at (among-either may board entries h rest g (subst (IsAmong may board entries h) are there)) where
+          at : IsAmong may board entries h rest ⊎ IsGuess may board g entries h → IsAmong may board (entry ∷ entries) after left ⊎ IsAmong may board entries h rest
           at (inl before) = inr before
-          at (inr last) = inl (is.0, made, is.1, gives.each board entries h events last can)
+          at (inr last) = inl (is.0, made, is.1, gives.each board entries h after last can)
 
   pub given-step : (new : List Guess) → IsGiven may g entry left new → AreGiven may guesses entry new rest
   given-step new (inl not) = subst (λ l. AreGiven may guesses entry l rest) (sym not.1) (given-not may guesses left untried rest entry g given are not.0)
@@ -101,13 +94,13 @@ given-nothing may g copy entry left same not = inl (subst (λ x. GivesNot may x 
 pub given-done : (may : Unseen) (guesses left untried : List Guess) (entry : Entry) → AreGiven may guesses entry left untried → untried ≡ [] → HaveGiven may guesses entry left
 given-done may guesses left untried entry given none =
     record {
-      each = λ board entries h events is can. by board entries h events (given.each board entries h events is can);
+      each = λ board entries h after is can. by board entries h after (given.each board entries h after is can);
       real = λ board entries real. (given.real board entries real).0;
     } where
-      by : (board : Board) (entries : List Entry) (h events : List Event)
-          → IsAmong may board (entry ∷ entries) (h ++ events) left ⊎ IsAmong may board entries h untried → IsAmong may board (entry ∷ entries) (h ++ events) left
-      by board entries h events (inl is) = is
-      by board entries h events (inr is) = absurd (among-none may board entries h (subst (IsAmong may board entries h) none is))
+      by : (board : Board) (entries : List Entry) (h after : List Move)
+          → IsAmong may board (entry ∷ entries) after left ⊎ IsAmong may board entries h untried → IsAmong may board (entry ∷ entries) after left
+      by board entries h after (inl is) = is
+      by board entries h after (inr is) = absurd (among-none may board entries h (subst (IsAmong may board entries h) none is))
 
 -- at the start
 pub exact-start : (may : Unseen) (board : Board) (g : Guess) → IsGuess may board g [] [] → AreExact may board [] (g ∷ [])
@@ -129,12 +122,12 @@ pub exact-more : (may : Unseen) (board : Board) (entries : List Entry) (entry : 
 exact-more may board entries entry guesses all left exact expanded closed given =
     record {
       real = given.real board entries (expanded.real board entries exact.real);
-      all = λ h legal ends. subst (λ k. IsAmong may board (entry ∷ entries) k left) (sym ends.2) (at ends.0 ends.1 (subst (IsLegal board) ends.2 legal) ends.3 ends.4);
+      all = λ after legal ends. at ends.0 after legal ends.1 ends.2;
     } where
-      at : (k events : List Event) → IsLegal board (k ++ events) → Behind may board entries k → Fits board entries k entry events → IsAmong may board (entry ∷ entries) (k ++ events) left
-      at k events legal behind fits =
-          given.each board entries k events
-          (behind-among may board all closed behind (legal-front board k events legal)
+      at : (k after : List Move) → IsLegal board (history after) → Behind may board entries k → Fits board entries k entry after → IsAmong may board (entry ∷ entries) after left
+      at k after legal behind fits =
+          given.each board entries k after
+          (behind-among may board all closed behind (legal-front board entries k after entry fits legal)
           (λ before fine ends. expanded.kept board entries before (exact.all before fine ends)))
           (record { fits = fits; legal = legal })
 
@@ -146,19 +139,14 @@ some-right may board entries (g ∷ gs) exact some =
     (real.0, guess-legal may board g entries real.0 real.1, real.1.behind)
 
 -- a history that is behind entries is behind them without what is unseen after the last
-ends-of : (may : Unseen) (board : Board) {entries : List Entry} {h : List Event} → Behind may board entries h → IsLegal board h → (k : List Event) × IsLegal board k × EndsShown may board entries k
+ends-of : (may : Unseen) (board : Board) {entries : List Entry} {h : List Move} → Behind may board entries h → IsLegal board (history h)
+    → (k : List Move) × IsLegal board (history k) × EndsShown may board entries k
 ends-of may board Behind.nothing legal = ([], legal, refl)
-ends-of may board (Behind.unseen {entries} {h} behind event unseen) legal = ends-of may board behind (IsLegal-front board h event legal)
-ends-of may board (Behind.shown {entries} {h} behind entry events fits) legal = (h ++ events, legal, (h, events, refl, behind, fits))
+ends-of may board (Behind.unseen {entries} {moves = h} behind move unseen) legal = ends-of may board behind (legal-before board h move legal)
+ends-of may board (Behind.shown {entries} {moves = h} behind entry after fits) legal = (after, legal, (h, behind, fits))
 
 -- no guess is left, and no history
 pub none-wrong : (may : Unseen) (board : Board) (entries : List Entry) (left : List Guess) → AreExact may board entries left → left ≡ [] → ¬ (HasLegalHistory may board entries)
 none-wrong may board entries left exact none history =
     let ends = ends-of may board history.2 history.1 in
     among-none may board entries ends.0 (subst (IsAmong may board entries ends.0) none (exact.all ends.0 ends.1 ends.2))
-
--- what has a history with one more entry has one
-pub front-right : (may : Unseen) (board : Board) (entry : Entry) (entries : List Entry) → HasLegalHistory may board (entry ∷ entries) → HasLegalHistory may board entries
-front-right may board entry entries history =
-    let ends = ends-of may board history.2 history.1 in
-    (ends.2.0, legal-front board ends.2.0 ends.2.1 (subst (IsLegal board) ends.2.2 ends.1), ends.2.3)

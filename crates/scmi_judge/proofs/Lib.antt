@@ -5,5 +5,6 @@ pub mod Boards
 pub mod Different
 pub mod Dues
 pub mod Exactness
+pub mod Executing
 pub mod Guessing
 pub mod Showing

@@ -1,8 +1,10 @@
--- The histories that may be behind a record. The entries of a record stand newest first here.
-use Rattle.std.specs.Prelude.{◌≡◌, ◌⊎◌, ℕ, Bool, true, false, List, [], ◌∷◌, ◌++◌, length, reverse, slice_get, Option}
+-- The histories that may be behind a record. The entries of a record, and the moves behind them, stand newest first here.
+use Rattle.std.specs.Prelude.{◌≡◌, ◌⊎◌, ⊤, ℕ, ◌<◌, Bool, true, false, List, [], ◌∷◌, ◌++◌, length, reverse, slice_get, Option, Some, None as Nothing}
 use Rattle.std.specs.Option.{option_map_or, option_to_list}
 use Rattle.scmi_plan.specs.Agent.{IsAgent}
 use Rattle.scmi_plan.specs.Board.{Board}
+use Rattle.scmi_codec.specs.declared.frame.Frame.{Frame}
+use Rattle.scmi_codec.specs.declared.frame.Answer.{Answer}
 use Rattle.scmi_codec.specs.declared.message.Message.{Message}
 use Rattle.scmi_core.specs.declared.event.Event.{Event}
 use Rattle.scmi_core.specs.declared.event.Event.TheVariants.{Command, Advance, Sent, CommandFailed, AdvanceFailed, Restarted}
@@ -11,9 +13,11 @@ use Rattle.scmi_core.specs.History.{answer_to, deeds, delivered_messages}
 use Rattle.scmi_core.specs.Legal.{IsLegal}
 use Rattle.scmi_core.specs.Pending.{pending_sets}
 use Rattle.scmi_core.specs.Reply.{failed_answer}
+use Rattle.scmi_judge.specs.Moves.{Move, history, outstanding, outstanding_at}
 use Rattle.scmi_judge.specs.Shown.{message_shown}
 use Rattle.scmi_judge.specs.declared.entry.Entry.{Entry}
 use Rattle.scmi_judge.specs.declared.entry.Entry.TheVariants as entry
+use Rattle.scmi_judge.specs.declared.outstanding.TheConstants.{OUTSTANDING}
 use Rattle.scmi_judge.specs.declared.unseen.Refusals.{Refusals}
 use Rattle.scmi_judge.specs.declared.unseen.Refusals.TheVariants.{None, Answered, Any}
 use Rattle.scmi_judge.specs.declared.unseen.Unseen.{Unseen}
@@ -44,37 +48,64 @@ may_refuse Any board h = true
 -- after a history that is behind these entries an event may come that no entry shows by itself: a pending set completes;
 -- or the hardware refuses its change, if it may; or a message is posted into its agent's channel, if that is empty, so that at most one is posted and not yet seen;
 -- or an agent restarts, if agents may
--- (own: a command is executed at the place of its answer)
-abbrev pub IsUnseen : Unseen → Board → List Entry → List Event → Event → Type 0
-IsUnseen may board entries h Advance = Unit {0}
-IsUnseen may board entries h AdvanceFailed = may_refuse may.refusals board h ≡ true
-IsUnseen may board entries h (Sent a) = HasEmptyChannel board entries h a
-IsUnseen may board entries h (Command a frame) = ⊥
-IsUnseen may board entries h (CommandFailed a frame) = ⊥
-IsUnseen may board entries h (Restarted a) = may.restarts ≡ true
+abbrev pub IsUnseenEvent : Unseen → Board → List Entry → List Event → Event → Type 0
+IsUnseenEvent may board entries h Advance = Unit {0}
+IsUnseenEvent may board entries h AdvanceFailed = may_refuse may.refusals board h ≡ true
+IsUnseenEvent may board entries h (Sent a) = HasEmptyChannel board entries h a
+IsUnseenEvent may board entries h (Command a frame) = ⊥
+IsUnseenEvent may board entries h (CommandFailed a frame) = ⊥
+IsUnseenEvent may board entries h (Restarted a) = may.restarts ≡ true
 
--- after a history that is behind these entries, these events are behind one more: a command with the answer that it gets
--- there, or one whose change the hardware refused, with the answer to that; or nothing more, and the message is the one
--- that was posted to its agent and not yet seen
-abbrev pub Fits : Board → List Entry → List Event → Entry → List Event → Type 0
-Fits board entries h (entry.Answered a frame answer) events =
-    ((events ≡ Command a frame ∷ []) × (answer ≡ answer_to board a frame h))
-    ⊎ ((events ≡ CommandFailed a frame ∷ []) × (answer ≡ failed_answer frame))
-Fits board entries h (entry.Delivered a message) events =
-    IsAgent (length board.agents) a × (events ≡ []) × (delivered_messages board a h ≡ taken_by a entries ++ message ∷ [])
+-- after a history this event is a command of agent a with the answer that it gets there, or one whose change the hardware refused, with the answer to that
+abbrev pub IsAnswered : Board → List Event → ℕ → Frame → Event → Answer → Type 0
+IsAnswered board h a frame event answer =
+    ((event ≡ Command a frame) × (answer ≡ answer_to board a frame h))
+    ⊎ ((event ≡ CommandFailed a frame) × (answer ≡ failed_answer frame))
 
--- a history is behind these entries, newest first: they show what they show of it, and unseen events stand anywhere
-pub data Behind (may : Unseen) (board : Board) : List Entry → List Event → Type 0 where
+-- after moves that are behind these entries this one may come that no entry shows by itself: an unseen event, or a command is executed that is outstanding and was not executed yet
+abbrev pub IsUnseen : Unseen → Board → List Entry → List Move → Move → Type 0
+IsUnseen may board entries moves (Move.happens event) = IsUnseenEvent may board entries (history moves) event
+IsUnseen may board entries moves (Move.executes k event answer) =
+    (a : ℕ) × (frame : Frame) × (outstanding_at k moves ≡ Some (outstanding a frame Nothing)) × IsAnswered board (history moves) a frame event answer
+IsUnseen may board entries moves (Move.asks k a frame) = ⊥
+IsUnseen may board entries moves (Move.frees k) = ⊥
+
+-- after moves that are behind these entries, these are behind one more. A command with its answer is executed here. A message that an agent takes is the one that was posted to it and not yet seen.
+-- A command that is answered later is outstanding from here on, at a place that was free; its answer is the one that it got when it was executed, and the place is free again; and if no answer of it comes, the place is free at some time
+abbrev pub Fits : Board → List Entry → List Move → Entry → List Move → Type 0
+Fits board entries moves (entry.Answered a frame answer) after =
+    (event : Event) × (after ≡ Move.happens event ∷ moves) × IsAnswered board (history moves) a frame event answer
+Fits board entries moves (entry.Delivered a message) after =
+    IsAgent (length board.agents) a × (after ≡ moves) × (delivered_messages board a (history moves) ≡ taken_by a entries ++ message ∷ [])
+Fits board entries moves (entry.Asked k a frame) after =
+    IsAgent (length board.agents) a × (after ≡ Move.asks k a frame ∷ moves) × (k < OUTSTANDING) × (outstanding_at k moves ≡ Nothing)
+Fits board entries moves (entry.Replied k a frame answer) after =
+    (after ≡ Move.frees k ∷ moves) × (outstanding_at k moves ≡ Some (outstanding a frame (Some answer)))
+Fits board entries moves (entry.GivenUp k) after = after ≡ Move.frees k ∷ moves
+
+-- moves are behind these entries, newest first: they show what they show of them, and unseen moves stand anywhere
+pub data Behind (may : Unseen) (board : Board) : List Entry → List Move → Type 0 where
   nothing : Behind may board [] []
-  unseen : {entries : List Entry} {h : List Event} → Behind may board entries h → (event : Event) → IsUnseen may board entries h event
-      → Behind may board entries (h ++ event ∷ [])
-  shown : {entries : List Entry} {h : List Event} → Behind may board entries h → (entry : Entry) (events : List Event) → Fits board entries h entry events
-      → Behind may board (entry ∷ entries) (h ++ events)
+  unseen : {entries : List Entry} {moves : List Move} → Behind may board entries moves → (move : Move) → IsUnseen may board entries moves move
+      → Behind may board entries (move ∷ moves)
+  shown : {entries : List Entry} {moves : List Move} → Behind may board entries moves → (entry : Entry) (after : List Move) → Fits board entries moves entry after
+      → Behind may board (entry ∷ entries) after
 
 -- a legal history of a board is behind these entries, newest first
 abbrev pub HasLegalHistory : Unseen → Board → List Entry → Type 0
-HasLegalHistory may board entries = (h : List Event) × IsLegal board h × Behind may board entries h
+HasLegalHistory may board entries = (moves : List Move) × IsLegal board (history moves) × Behind may board entries moves
 
 -- a record is right: a legal history of the board is behind it
 abbrev pub IsRight : Unseen → Board → List Entry → Type 0
 IsRight may board entries = HasLegalHistory may board (reverse entries)
+
+-- an entry is not of a command that is answered later
+abbrev pub IsAtOnce : Entry → Type 0
+IsAtOnce (entry.Answered a frame answer) = ⊤
+IsAtOnce (entry.Delivered a message) = ⊤
+IsAtOnce _ = ⊥
+
+-- a move is an event by itself
+abbrev pub IsEvent : Move → Type 0
+IsEvent (Move.happens event) = ⊤
+IsEvent _ = ⊥

@@ -4,6 +4,7 @@ pub mod Exact
 pub mod Guess
 pub mod Guesses
 pub mod Judging
+pub mod Moves
 pub mod Same
 pub mod Shown
 pub mod Unseen

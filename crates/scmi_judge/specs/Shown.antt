@@ -16,20 +16,20 @@ use Rattle.scmi_codec.specs.declared.status.Status.{Status}
 use Rattle.scmi_judge.specs.declared.entry.Entry.{Entry}
 use Rattle.scmi_judge.specs.declared.entry.Entry.TheVariants.{Answered, Delivered}
 
--- the frame of an entry, if it is a command of agent a
+-- the frame of an entry, if it is a command of agent a with its answer
 abbrev pub frame_shown : ℕ → Entry → Option Frame
 frame_shown a (Answered b frame answer) = if a == b then Some frame else None
-frame_shown a (Delivered b message) = None
+frame_shown a _ = None
 
--- the answer of an entry, if it is to a command of agent a
+-- the answer of an entry, if it is a command of agent a with its answer
 abbrev pub answer_shown : ℕ → Entry → Option Answer
 answer_shown a (Answered b frame answer) = if a == b then Some answer else None
-answer_shown a (Delivered b message) = None
+answer_shown a _ = None
 
 -- the message of an entry, if it is one that agent a took
 abbrev pub message_shown : ℕ → Entry → Option Message
-message_shown a (Answered b frame answer) = None
 message_shown a (Delivered b message) = if a == b then Some message else None
+message_shown a _ = None
 
 -- whether an answer is a reply that begins with SUCCESS
 abbrev pub has_succeeded : Answer → Bool

@@ -13,8 +13,7 @@ use crate::entry::Entry;
 use crate::guess::Guess;
 use crate::guesses::Guesses;
 use crate::verdict::Verdict;
-use scmi_codec::{Answer, Frame, Message};
-use scmi_core::Answered;
+use scmi_codec::Frame;
 
 impl Guesses {
     /// What was due in place of an entry that none of the others gives: what the last of them gives
@@ -59,6 +58,17 @@ impl Guess {
         match entry {
             Entry::Answered { agent, frame, .. } => self.due_answer(*agent, frame),
             Entry::Delivered { agent, .. } => self.due_message(*agent),
+            Entry::Replied { place, .. } => self.due_reply(*place),
+            Entry::Asked { .. } | Entry::GivenUp { .. } => None,
+        }
+    }
+
+    fn due_reply(&self, place: u32) -> Option<Verdict>
+        ensures { IfSome result (λ due. due ≢ Same) }
+    {
+        match &self.command_at(place)?.answer {
+            Some(answer) => Some(Verdict::Answer(answer.copy())),
+            None => None,
         }
     }
 
@@ -66,12 +76,8 @@ impl Guess {
         ensures differs { IfSome result (λ due. due ≢ Same) }
         ensures board { self.new.platform.board ≡ self.old.platform.board }
     {
-        let mut reply = Message::default();
-        match self.platform.command(agent, frame, &mut reply) {
-            Ok(Answered::Reply) => Some(Verdict::Answer(Answer::Reply(reply))),
-            Ok(Answered::ChannelError) => Some(Verdict::Answer(Answer::ChannelError)),
-            Err(_) => None,
-        }
+        let answer = self.executed(agent, frame)?;
+        Some(Verdict::Answer(answer))
     }
 
     fn due_message(&self, agent: u32) -> Option<Verdict>
@@ -100,6 +106,20 @@ pub fn in_place(entry: &Entry, verdict: &Verdict) -> Entry
         (Entry::Delivered { agent, .. }, Verdict::Message(due)) => Entry::Delivered {
             agent: *agent,
             message: due.copy(),
+        },
+        (
+            Entry::Replied {
+                place,
+                agent,
+                frame,
+                ..
+            },
+            Verdict::Answer(due),
+        ) => Entry::Replied {
+            place: *place,
+            agent: *agent,
+            frame: frame.copy(),
+            answer: due.copy(),
         },
         _ => entry.copy(),
     }

@@ -6,7 +6,7 @@ use scmi_codec::{Answer, Frame, Message};
 /// One entry of a record of what went over a platform's channels, at its place in time.
 #[derive(Clone, PartialEq, Eq, Debug, Drop)]
 pub enum Entry {
-    /// A command of an agent, with the answer that it got.
+    /// A command of an agent, with the answer that it got. It is executed here.
     Answered {
         agent: u32,
         frame: Frame,
@@ -16,6 +16,25 @@ pub enum Entry {
     Delivered {
         agent: u32,
         message: Message,
+    },
+    /// A command of an agent that is answered later. It has a place that is free, below
+    /// `OUTSTANDING`, and is executed anywhere from here on.
+    Asked {
+        place: u32,
+        agent: u32,
+        frame: Frame,
+    },
+    /// The answer to the command at a place, which was executed before, and is free from here on.
+    Replied {
+        place: u32,
+        agent: u32,
+        frame: Frame,
+        answer: Answer,
+    },
+    /// The record has no answer to the command at a place, which is free from here on: it was
+    /// executed before, or it never is.
+    GivenUp {
+        place: u32,
     },
 }
 
@@ -38,6 +57,27 @@ impl Entry {
                 agent: *agent,
                 message: message.copy(),
             },
+            Entry::Asked {
+                place,
+                agent,
+                frame,
+            } => Entry::Asked {
+                place: *place,
+                agent: *agent,
+                frame: frame.copy(),
+            },
+            Entry::Replied {
+                place,
+                agent,
+                frame,
+                answer,
+            } => Entry::Replied {
+                place: *place,
+                agent: *agent,
+                frame: frame.copy(),
+                answer: answer.copy(),
+            },
+            Entry::GivenUp { place } => Entry::GivenUp { place: *place },
         }
     }
 }

@@ -46,8 +46,9 @@ impl Guesses {
         ensures places { OnOk result (places self.new ≡ all_places self.old) }
         ensures memory { IfErr result (λ stop. stop ≡ Stop.Memory) }
     {
-        'each: while let Some(guess) = self.others.pop() {
+        'each: while let Some(mut guess) = self.others.pop() {
             self.go_on_from(&guess, entry)?;
+            guess.free_place(entry);
             self.put(guess)?;
         }
         Ok(())
@@ -134,6 +135,20 @@ impl Guess {
                     self.posted[*agent as usize - 1] = None;
                 }
             }
+            Entry::Replied { place, .. } => {
+                let _ = self.execute_at(*place);
+                self.give_up(*place);
+            }
+            Entry::Asked { .. } | Entry::GivenUp { .. } => {}
+        }
+    }
+
+    /// The place of the command that an entry answers is free.
+    fn free_place(&mut self, entry: &Entry)
+        ensures { self.new.platform.board ≡ self.old.platform.board }
+    {
+        if let Entry::Replied { place, .. } = entry {
+            self.give_up(*place);
         }
     }
 
@@ -142,6 +157,7 @@ impl Guess {
     fn give_value(&mut self, entry: &Entry)
         ensures { self.new.platform.board ≡ self.old.platform.board }
     {
+        self.free_place(entry);
         let Some(set) = value_of(entry) else {
             return;
         };
@@ -162,6 +178,11 @@ impl Guess {
 fn value_of(entry: &Entry) -> Option<Message> {
     match entry {
         Entry::Answered {
+            frame: Frame::Good(command),
+            answer,
+            ..
+        }
+        | Entry::Replied {
             frame: Frame::Good(command),
             answer,
             ..

@@ -1,20 +1,22 @@
 //! A platform that may be behind a record.
-ghost use Rattle.std.specs.Prelude.{◌≡◌, ◌≢◌, ◌≤◌, ◌↔◌, [], List, None, Some, length, true, false};
+ghost use Rattle.std.specs.Prelude.{◌≡◌, ◌≢◌, ◌≤◌, ◌↔◌, [], List, None, Some, length, true, false, IfSome};
 ghost use Rattle.scmi_plan.specs.Agent.{IsAgent};
 ghost use Rattle.scmi_plan.specs.declared.limits.TheConstants.{AGENTS as MOST};
 ghost use Rattle.scmi_core.specs.Effect.{effect_after};
 ghost use Rattle.scmi_core.specs.Reply.{failed_answer};
-ghost use Rattle.scmi_core.specs.Standing.{StandsAfter};
+ghost use Rattle.scmi_core.specs.History.{answer_to};
+ghost use Rattle.scmi_core.specs.Standing.{MovesOn, StandsAfter};
 ghost use Rattle.scmi_core.specs.declared.event.Event.{Event};
 ghost use Rattle.scmi_judge.specs.Behind.{may_refuse};
 ghost use Rattle.scmi_judge.specs.Guess.{CannotCome, Gives, GivesNot, GoesOn, IsGuess, posted_to};
-ghost use Rattle.scmi_judge.specs.Unseen.{event_of};
 ghost use Rattle.scmi_judge.specs.declared.entry.Entry.TheVariants as entry;
+ghost use Rattle.scmi_judge.specs.declared.unseen.Step.TheVariants as steps;
 ghost use Rattle.scmi_judge.specs.declared.unseen.Unseen.{Unseen as Hidden};
-ghost use Rattle.scmi_core.specs.declared.event.Event.TheVariants.{AdvanceFailed, Command, Restarted, Sent};
+ghost use Rattle.scmi_core.specs.declared.event.Event.TheVariants.{Command};
 
 use crate::entry::Entry;
-use crate::same::{is_same_answer, is_same_message};
+use crate::outstanding::{OUTSTANDING, Outstanding};
+use crate::same::{are_same_commands, is_same_answer, is_same_message};
 use crate::shown::has_succeeded;
 use crate::unseen::{Refusals, Step, Unseen};
 use scmi_codec::{Answer, Frame, Message};
@@ -22,12 +24,14 @@ use scmi_core::{Answered, Platform};
 use scmi_plan::{AGENTS, Plan};
 
 /// A platform that may be behind a record, with the message in the channel to each agent that was
-/// posted and that no entry shows yet.
+/// posted and that no entry shows yet, and the commands that are answered later.
 #[derive(Debug, Drop)]
 pub(crate) struct Guess {
     pub platform: Platform,
     // That to agent a at index a - 1.
     pub posted: [Option<Message>; AGENTS],
+    // The commands that are answered later, each at its place.
+    pub outstanding: [Option<Outstanding>; OUTSTANDING],
 }
 
 impl Guess {
@@ -38,7 +42,12 @@ impl Guess {
     {
         let platform = Platform::new(plan);
         let posted = [None, None, None, None, None, None, None, None];
-        Guess { platform, posted }
+        let outstanding = [None, None, None, None, None, None, None, None];
+        Guess {
+            platform,
+            posted,
+            outstanding,
+        }
     }
 
     /// Becomes the same as another guess of this board.
@@ -48,6 +57,7 @@ impl Guess {
     {
         self.platform.copy_from(&other.platform);
         self.posted = copy_all(&other.posted);
+        self.outstanding = copy_commands(&other.outstanding);
     }
 
     /// Whether another guess of this board is the same.
@@ -55,7 +65,9 @@ impl Guess {
         requires { self.now.platform.board ≡ other.now.platform.board }
         ensures { (result ≡ true) ↔ (self.now ≡ other.now) }
     {
-        self.platform.is_same(&other.platform) && self.posted == other.posted
+        self.platform.is_same(&other.platform)
+            && self.posted == other.posted
+            && are_same_commands(&self.outstanding, &other.outstanding)
     }
 
     /// Whether the board has an agent of this number.
@@ -68,13 +80,14 @@ impl Guess {
 
     /// Whether a step may come; `unseen` is what may happen unseen.
     pub fn can_come(&self, step: Step, unseen: Unseen) -> bool
-        ensures { result ≡ false → CannotCome unseen self.now (event_of step) }
+        ensures { result ≡ false → CannotCome unseen self.now step }
     {
         match step {
             Step::Complete => !self.platform.pending_sets().is_empty(),
             Step::Refuse => self.can_refuse(unseen),
             Step::Post { agent } => self.can_post(agent),
             Step::Restart { agent } => unseen.restarts && self.has_agent(agent),
+            Step::Execute { place } | Step::Fail { place } => self.waits(place),
         }
     }
 
@@ -82,7 +95,7 @@ impl Guess {
     fn can_refuse(&self, unseen: Unseen) -> bool
         ensures may { result ≡ true → (h : List Event) → StandsAfter self.now.platform h
             → may_refuse unseen.refusals self.now.platform.board h ≡ true }
-        ensures cannot { result ≡ false → CannotCome unseen self.now AdvanceFailed }
+        ensures cannot { result ≡ false → CannotCome unseen self.now steps.Refuse }
     {
         match (self.platform.pending_sets(), unseen.refusals) {
             ([], _) | (_, Refusals::None) => false,
@@ -97,7 +110,7 @@ impl Guess {
         ensures few { result ≡ true → agent ≤ MOST }
         ensures empty { result ≡ true → posted_to self.now agent ≡ None }
         ensures cannot { result ≡ false → (may : Hidden)
-            → CannotCome may self.now (Sent agent) }
+            → CannotCome may self.now (steps.Post agent) }
     {
         if !self.has_agent(agent) || self.platform.first(agent).is_none() {
             return false;
@@ -107,8 +120,8 @@ impl Guess {
 
     /// Makes a step; `false` if it can't come.
     pub fn make(&mut self, step: Step, unseen: Unseen) -> bool
-        ensures goes { result ≡ true → GoesOn unseen self.old (event_of step) self.new }
-        ensures cannot { result ≡ false → CannotCome unseen self.old (event_of step) }
+        ensures goes { result ≡ true → GoesOn unseen self.old step self.new }
+        ensures cannot { result ≡ false → CannotCome unseen self.old step }
         ensures board { self.new.platform.board ≡ self.old.platform.board }
     {
         match step {
@@ -116,14 +129,16 @@ impl Guess {
             Step::Refuse => self.refuse(unseen),
             Step::Post { agent } => self.post(agent),
             Step::Restart { agent } => self.restart(agent, unseen),
+            Step::Execute { place } => self.execute_at(place),
+            Step::Fail { place } => self.fail_at(place),
         }
     }
 
     /// The hardware refuses the change of the first pending set; `false` if it can't, and then
     /// nothing changed.
     fn refuse(&mut self, unseen: Unseen) -> bool
-        ensures goes { result ≡ true → GoesOn unseen self.old AdvanceFailed self.new }
-        ensures cannot { result ≡ false → CannotCome unseen self.old AdvanceFailed }
+        ensures goes { result ≡ true → GoesOn unseen self.old steps.Refuse self.new }
+        ensures cannot { result ≡ false → CannotCome unseen self.old steps.Refuse }
         ensures board { self.new.platform.board ≡ self.old.platform.board }
     {
         if !self.can_refuse(unseen) {
@@ -135,9 +150,9 @@ impl Guess {
     /// Posts the first message for an agent into its channel; `false` if it can't be posted.
     fn post(&mut self, agent: u32) -> bool
         ensures goes { result ≡ true → (may : Hidden)
-            → GoesOn may self.old (Sent agent) self.new }
+            → GoesOn may self.old (steps.Post agent) self.new }
         ensures cannot { result ≡ false → (may : Hidden)
-            → CannotCome may self.old (Sent agent) }
+            → CannotCome may self.old (steps.Post agent) }
         ensures board { self.new.platform.board ≡ self.old.platform.board }
     {
         if !self.can_post(agent) {
@@ -155,8 +170,8 @@ impl Guess {
 
     /// An agent restarts; `false` if it can't, and then nothing changed.
     fn restart(&mut self, agent: u32, unseen: Unseen) -> bool
-        ensures goes { result ≡ true → GoesOn unseen self.old (Restarted agent) self.new }
-        ensures cannot { result ≡ false → CannotCome unseen self.old (Restarted agent) }
+        ensures goes { result ≡ true → GoesOn unseen self.old (steps.Restart agent) self.new }
+        ensures cannot { result ≡ false → CannotCome unseen self.old (steps.Restart agent) }
         ensures board { self.new.platform.board ≡ self.old.platform.board }
     {
         if !unseen.restarts {
@@ -183,6 +198,21 @@ impl Guess {
                 answer,
             } => self.answer(*agent, frame, answer),
             Entry::Delivered { agent, message } => self.take(*agent, message),
+            Entry::Asked {
+                place,
+                agent,
+                frame,
+            } => self.ask(*place, *agent, frame),
+            Entry::Replied {
+                place,
+                agent,
+                frame,
+                answer,
+            } => self.reply(*place, *agent, frame, answer),
+            Entry::GivenUp { place } => {
+                self.give_up(*place);
+                true
+            }
         }
     }
 
@@ -219,11 +249,30 @@ impl Guess {
             → GivesNot may self.old (entry.Answered agent frame.now answer.now) }
         ensures board { self.new.platform.board ≡ self.old.platform.board }
     {
+        match self.executed(agent, frame) {
+            Some(given) => is_same_answer(&given, answer),
+            None => false,
+        }
+    }
+
+    /// The answer to a command that is executed; `None` if the board lacks the agent, and then
+    /// nothing changed.
+    pub fn executed(&mut self, agent: u32, frame: &Frame) -> Option<Answer>
+        ensures answer { IfSome result (λ given. (h : List Event) → StandsAfter self.old.platform h
+            → given ≡ answer_to self.old.platform.board agent frame.now h) }
+        ensures event { IfSome result (λ given.
+            MovesOn self.old.platform (Command agent frame.now) self.new.platform) }
+        ensures no_agent { result ≡ None
+            → ¬ (IsAgent (length self.old.platform.board.agents) agent) }
+        ensures board { self.new.platform.board ≡ self.old.platform.board }
+        ensures posted { self.new.posted ≡ self.old.posted }
+        ensures outstanding { self.new.outstanding ≡ self.old.outstanding }
+    {
         let mut reply = Message::default();
         match self.platform.command(agent, frame, &mut reply) {
-            Ok(Answered::Reply) => is_same_answer(&Answer::Reply(reply), answer),
-            Ok(Answered::ChannelError) => is_same_answer(&Answer::ChannelError, answer),
-            Err(_) => false,
+            Ok(Answered::Reply) => Some(Answer::Reply(reply)),
+            Ok(Answered::ChannelError) => Some(Answer::ChannelError),
+            Err(_) => None,
         }
     }
 
@@ -252,6 +301,33 @@ impl Guess {
             Some(posted) => is_same_message(posted, message),
             None => false,
         }
+    }
+}
+
+/// The same commands again.
+fn copy_commands(
+    commands: &[Option<Outstanding>; OUTSTANDING],
+) -> [Option<Outstanding>; OUTSTANDING]
+    ensures { result ≡ commands.now }
+{
+    [
+        copy_command(&commands[0]),
+        copy_command(&commands[1]),
+        copy_command(&commands[2]),
+        copy_command(&commands[3]),
+        copy_command(&commands[4]),
+        copy_command(&commands[5]),
+        copy_command(&commands[6]),
+        copy_command(&commands[7]),
+    ]
+}
+
+fn copy_command(command: &Option<Outstanding>) -> Option<Outstanding>
+    ensures { result ≡ command.now }
+{
+    match command {
+        Some(command) => Some(command.copy()),
+        None => None,
     }
 }
 

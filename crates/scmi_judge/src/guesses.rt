@@ -1,15 +1,14 @@
 //! The platforms that may be behind a record, one beside the other.
 ghost use Rattle.std.specs.Prelude.{◌≡◌, ◌↔◌, ℕ, ◌+◌, ◌∷◌, ◌++◌, [], List, length, reverse, true, OnOk, IfErr};
-ghost use Rattle.scmi_judge.specs.Exact.{AreClosed, HaveGiven, HaveGrown, HaveKept, IsOfBoard, IsTried, IsTriedAbove, IsTriedWhole};
+ghost use Rattle.scmi_judge.specs.Exact.{AreClosed, HaveGiven, HaveGrown, HaveKept, IsOfBoard, IsTried, IsTriedAbove, AreTriedActs, IsTriedWhole};
 ghost use Rattle.scmi_judge.specs.Guesses.{AreDifferent, AreFound, AreOfBoard, FindsMany, HaveBoard, IsGiven, IsIn, KeepBoard, StayFound, all_places, places};
 ghost use Rattle.scmi_judge.specs.declared.entry.Entry.{Entry as Shown};
-ghost use Rattle.scmi_judge.specs.Unseen.{event_by, event_of};
 ghost use Rattle.scmi_plan.specs.Board.{Board};
 
 use crate::entry::Entry;
 use crate::guess::Guess;
 use crate::stop::Stop;
-use crate::unseen::{Act, Step, Unseen};
+use crate::unseen::{ACTS, Act, Step, Unseen};
 use std::mem;
 
 /// Guesses of one board, in places that are there from the start.
@@ -77,16 +76,15 @@ impl Guesses {
     {
         self.try_step(guess, Step::Complete)?;
         self.try_step(guess, Step::Refuse)?;
-        self.try_each(guess, Act::Post)?;
-        self.try_each(guess, Act::Restart)?;
+        self.try_acts(guess)?;
         Ok(())
     }
 
-    /// Tries this of each agent.
-    fn try_each(&mut self, guess: &Guess, act: Act) -> Result<(), Stop>
+    /// Tries what may happen to each agent, and to each outstanding command.
+    fn try_acts(&mut self, guess: &Guess) -> Result<(), Stop>
         requires boards { (board : Board) × AreOfBoard board self.old
             × (guess.now.platform.board ≡ board) }
-        ensures each { OnOk result (IsTriedAbove self.old.unseen guess.now (event_by act) 0
+        ensures acts { OnOk result (AreTriedActs self.old.unseen guess.now
             ((self.old.tried.items ++ guess.now ∷ []) ++ self.new.left.items)) }
         ensures grown { OnOk result
             (HaveGrown self.old.unseen guess.now self.old.left.items self.new.left.items) }
@@ -100,10 +98,34 @@ impl Guesses {
             → FindsMany self.old.unseen (self.old.tried.items ++ guess.now ∷ [])
             self.old.left.items (2 + places self.old)) }
     {
-        let mut agent = guess.platform.agents();
-        'agents: while agent > 0 {
-            self.try_step(guess, act.step(agent))?;
-            agent -= 1;
+        'acts: for act in &ACTS {
+            self.try_each(guess, *act)?;
+        }
+        Ok(())
+    }
+
+    /// Tries this of each agent, or of the command at each place.
+    fn try_each(&mut self, guess: &Guess, act: Act) -> Result<(), Stop>
+        requires boards { (board : Board) × AreOfBoard board self.old
+            × (guess.now.platform.board ≡ board) }
+        ensures each { OnOk result (IsTriedAbove self.old.unseen guess.now act 0
+            ((self.old.tried.items ++ guess.now ∷ []) ++ self.new.left.items)) }
+        ensures grown { OnOk result
+            (HaveGrown self.old.unseen guess.now self.old.left.items self.new.left.items) }
+        ensures found { OnOk result (StayFound self.old.unseen guess.now
+            self.old.tried.items self.old.left.items self.new.left.items) }
+        ensures places { OnOk result (places self.new ≡ places self.old) }
+        ensures keeps { KeepBoard self.old self.new }
+        ensures tried { self.new.tried ≡ self.old.tried }
+        ensures others { self.new.others ≡ self.old.others }
+        ensures full { IfErr result (λ stop. stop ≡ Stop.Full
+            → FindsMany self.old.unseen (self.old.tried.items ++ guess.now ∷ [])
+            self.old.left.items (2 + places self.old)) }
+    {
+        let mut number = act.count(guess.platform.agents());
+        'numbers: while number > 0 {
+            self.try_step(guess, act.step(number))?;
+            number -= 1;
         }
         Ok(())
     }
@@ -112,7 +134,7 @@ impl Guesses {
     fn try_step(&mut self, guess: &Guess, step: Step) -> Result<(), Stop>
         requires boards { (board : Board) × AreOfBoard board self.old
             × (guess.now.platform.board ≡ board) }
-        ensures moves { OnOk result (IsTried self.old.unseen guess.now (event_of step)
+        ensures moves { OnOk result (IsTried self.old.unseen guess.now step
             ((self.old.tried.items ++ guess.now ∷ []) ++ self.new.left.items)) }
         ensures grown { OnOk result
             (HaveGrown self.old.unseen guess.now self.old.left.items self.new.left.items) }

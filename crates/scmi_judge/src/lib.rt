@@ -6,6 +6,7 @@
 //! it (specs/Behind.antt).
 #![tactic(auto)]
 
+mod commands;
 mod due;
 mod entry;
 mod exact_sets;
@@ -14,6 +15,7 @@ mod guess;
 mod guesses;
 mod judge;
 mod judging;
+mod outstanding;
 mod records;
 mod same;
 mod shown;
@@ -25,6 +27,7 @@ pub use due::in_place;
 pub use entry::Entry;
 pub use exact_sets::every_exact_set;
 pub use judge::Judge;
+pub use outstanding::OUTSTANDING;
 pub use records::every_record;
 pub use shown::{has_succeeded, sets_value};
 pub use unseen::{NOTHING_UNSEEN, Refusals, Unseen};

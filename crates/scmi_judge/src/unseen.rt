@@ -1,8 +1,10 @@
 //! What happens to a platform that no entry of a record shows by itself.
-ghost use Rattle.std.specs.Prelude.{◌≡◌};
-ghost use Rattle.scmi_judge.specs.Unseen.{event_by, event_of};
+ghost use Rattle.std.specs.Prelude.{◌≡◌, ◌<◌};
+ghost use Rattle.scmi_judge.specs.Unseen.{count_of, step_of};
 
-/// An event that no entry shows by itself.
+use crate::outstanding::OUTSTANDING;
+
+/// What may happen that no entry shows by itself.
 #[derive(Clone, Copy, PartialEq, Eq, Debug)]
 pub(crate) enum Step {
     /// The first pending set completes.
@@ -13,25 +15,50 @@ pub(crate) enum Step {
     Post { agent: u32 },
     /// An agent restarts.
     Restart { agent: u32 },
+    /// The outstanding command at a place is executed.
+    Execute { place: u32 },
+    /// The hardware refuses the change of the outstanding command at a place.
+    Fail { place: u32 },
 }
 
-/// What may happen of each agent that no entry shows by itself.
+/// What may happen to each agent, or to the outstanding command at each place, that no entry shows
+/// by itself.
 #[derive(Clone, Copy, PartialEq, Eq, Debug)]
 pub(crate) enum Act {
     /// The first message for it is posted into its channel.
     Post,
     /// It restarts.
     Restart,
+    /// The command is executed.
+    Execute,
+    /// The hardware refuses its change.
+    Fail,
 }
 
+/// All of them.
+pub(crate) const ACTS: [Act; 4] = [Act::Post, Act::Restart, Act::Execute, Act::Fail];
+
 impl Act {
-    /// The step of this agent.
-    pub fn step(self, agent: u32) -> Step
-        ensures { event_of result ≡ event_by self agent }
+    /// The step of the agent of this number, or of the place of this number, counted from 1.
+    pub fn step(self, number: u32) -> Step
+        requires { 0 < number }
+        ensures { result ≡ step_of self number }
     {
         match self {
-            Act::Post => Step::Post { agent },
-            Act::Restart => Step::Restart { agent },
+            Act::Post => Step::Post { agent: number },
+            Act::Restart => Step::Restart { agent: number },
+            Act::Execute => Step::Execute { place: number - 1 },
+            Act::Fail => Step::Fail { place: number - 1 },
+        }
+    }
+
+    /// How many agents or places there are, on a board with so many agents.
+    pub fn count(self, agents: u32) -> u32
+        ensures { result ≡ count_of self agents }
+    {
+        match self {
+            Act::Post | Act::Restart => agents,
+            Act::Execute | Act::Fail => OUTSTANDING as u32,
         }
     }
 }

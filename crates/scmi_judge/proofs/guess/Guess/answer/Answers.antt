@@ -16,7 +16,7 @@ changes c h stands none =
 
 pub returns-in-Ok-clause-gives : goal.returns-in-Ok-clause-gives
 returns-in-Ok-clause-gives c went may =
-    gives-failed may c.args.self.now _ c.args.agent c.args.frame.now c.args.answer.now c.in-Ok.ensures.event refl refl
+    gives-failed may c.args.self.now _ c.args.agent c.args.frame.now c.args.answer.now c.in-Ok.ensures.event refl refl refl
     (sym (c.is_same_answer.ensures.same.0 went) ∙ c.in-Ok.ensures.answer)
     (λ h stands. failed-not-done c.args.self.now.platform.board h c.args.agent c.args.frame.now c.args.answer.now (changes c h stands) (search rules))
 

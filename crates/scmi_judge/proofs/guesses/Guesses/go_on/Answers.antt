@@ -34,7 +34,7 @@ put-requires c =
     } in
     let board = c.requires.boards.0 in
     let before = c.each.invariant.keeps.boards board c.requires.boards.1 in
-    record { boards = (board, from.boards board c.requires.boards.1, (of-popped board _ _ c.in-Some.guess c.in-Some.ensures.items before.others).1) }
+    record { boards = (board, from.boards board c.requires.boards.1, c.free_place.ensures ∙ (of-popped board _ _ c.in-Some.guess c.in-Some.ensures.items before.others).1) }
 
 pub each-preserved : goal.each-preserved
 each-preserved c =

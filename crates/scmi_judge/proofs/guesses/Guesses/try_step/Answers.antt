@@ -2,7 +2,6 @@ use Rattle.std.proofs.Common.{◌≡◌, ◌+◌, ◌++◌, ◌∷◌, [], Err, 
 use Rattle.std.proofs.lemmas.Grind.{common_steps}
 use Rattle.scmi_judge.specs.Guess.{GoesOn}
 use Rattle.scmi_judge.specs.Guesses.{IsIn, places}
-use Rattle.scmi_judge.specs.Unseen.{event_of}
 use Rattle.scmi_judge.proofs.Among.{in-back, in-front, in-last, tried-there}
 use Rattle.scmi_judge.proofs.Boards.{keep-made}
 use Rattle.scmi_judge.proofs.Different.{absent, if-err, not-both, step-found, step-many}
@@ -13,7 +12,7 @@ returns-then-is_same-clause-moves c =
     let did : c.make.result ≡ true = search rules in
     let same : c.make.new.self ≡ c.args.guess.now = c.is_same.ensures.0 c.if-is_same.true in
     tried-there c.args.self.now.unseen c.args.guess.now c.copy_from.new.self c.make.new.self
-    (event_of c.args.step) _ c.copy_from.ensures (c.make.ensures.goes did)
+    c.args.step _ c.copy_from.ensures (c.make.ensures.goes did)
     (in-front c.make.new.self (c.args.self.now.tried.items ++ c.args.guess.now ∷ [])
     c.args.self.now.left.items (subst (λ g. IsIn g (c.args.self.now.tried.items ++ c.args.guess.now ∷ []))
     (sym same) (in-last c.args.guess.now c.args.self.now.tried.items _ refl)))
@@ -21,7 +20,7 @@ returns-then-is_same-clause-moves c =
 pub returns-then-has-clause-moves : goal.returns-then-has-clause-moves
 returns-then-has-clause-moves c =
     let did : c.make.result ≡ true = search rules in
-    tried-there c.args.self.now.unseen c.args.guess.now c.copy_from.new.self c.make.new.self (event_of c.args.step) _ c.copy_from.ensures (c.make.ensures.goes did)
+    tried-there c.args.self.now.unseen c.args.guess.now c.copy_from.new.self c.make.new.self c.args.step _ c.copy_from.ensures (c.make.ensures.goes did)
     (in-front c.make.new.self (c.args.self.now.tried.items ++ c.args.guess.now ∷ []) c.args.self.now.left.items
     (in-front c.make.new.self c.args.self.now.tried.items (c.args.guess.now ∷ [])
     (subst (IsIn c.make.new.self) c.deref.ensures.value (c.has.ensures.0 c.if-has.true))))
@@ -29,13 +28,13 @@ returns-then-has-clause-moves c =
 pub returns-then-has-2-clause-moves : goal.returns-then-has-2-clause-moves
 returns-then-has-2-clause-moves c =
     let did : c.make.result ≡ true = search rules in
-    tried-there c.args.self.now.unseen c.args.guess.now c.copy_from.new.self c.make.new.self (event_of c.args.step) _ c.copy_from.ensures (c.make.ensures.goes did)
+    tried-there c.args.self.now.unseen c.args.guess.now c.copy_from.new.self c.make.new.self c.args.step _ c.copy_from.ensures (c.make.ensures.goes did)
     (in-back c.make.new.self (c.args.self.now.tried.items ++ c.args.guess.now ∷ []) c.args.self.now.left.items (subst (IsIn c.make.new.self) c.deref-2.ensures.value (c.has-2.ensures.0 c.if-has-2.true)))
 
 pub returns-clause-moves : goal.returns-clause-moves
 returns-clause-moves c =
     let did : c.make.result ≡ true = search rules in
-    tried-there c.args.self.now.unseen c.args.guess.now c.copy_from.new.self c.make.new.self (event_of c.args.step) _ c.copy_from.ensures (c.make.ensures.goes did)
+    tried-there c.args.self.now.unseen c.args.guess.now c.copy_from.new.self c.make.new.self c.args.step _ c.copy_from.ensures (c.make.ensures.goes did)
     (in-back c.make.new.self (c.args.self.now.tried.items ++ c.args.guess.now ∷ []) c.keep_made.new.self.left.items
     (in-last c.make.new.self c.args.self.now.left.items c.keep_made.new.self.left.items c.in_ok-keep_made.ensures.kept))
 
@@ -51,7 +50,7 @@ pub returns-clause-found : goal.returns-clause-found
 returns-clause-found c board entries found =
     let did : c.make.result ≡ true = search rules in
     let made = c.make.new.self in
-    let goes = subst (λ x. GoesOn c.args.self.now.unseen x (event_of c.args.step) made) c.copy_from.ensures (c.make.ensures.goes did) in
+    let goes = subst (λ x. GoesOn c.args.self.now.unseen x c.args.step made) c.copy_from.ensures (c.make.ensures.goes did) in
     let other = λ (same : made ≡ c.args.guess.now).
     not-both _ c.if-is_same.false (c.is_same.ensures.1 same) in
     let untried = absent c.args.self.now.tried.items _ made c.has.result c.deref.ensures.value c.has.ensures c.if-has.false in
@@ -62,7 +61,7 @@ pub returns-in_err-keep_made-clause-full : goal.returns-in_err-keep_made-clause-
 returns-in_err-keep_made-clause-full c =
     let did : c.make.result ≡ true = search rules in
     let made = c.make.new.self in
-    let goes = subst (λ x. GoesOn c.args.self.now.unseen x (event_of c.args.step) made) c.copy_from.ensures (c.make.ensures.goes did) in
+    let goes = subst (λ x. GoesOn c.args.self.now.unseen x c.args.step made) c.copy_from.ensures (c.make.ensures.goes did) in
     let other = λ (same : made ≡ c.args.guess.now).
     not-both _ c.if-is_same.false (c.is_same.ensures.1 same) in
     let untried = absent c.args.self.now.tried.items _ made c.has.result c.deref.ensures.value c.has.ensures c.if-has.false in
