@@ -32,40 +32,58 @@ use Rattle.scmi_judge.specs.declared.unseen.Unseen.{Unseen}
 use Rattle.scmi_judge.specs.declared.entry.Entry.TheVariants.{Answered, Delivered}
 
 -- a guess's history is legal
-pub guess-legal : (may : Unseen) (board : Board) (g : Guess) (entries : List Entry) (moves : List Move) → IsGuess may board g entries moves → IsLegal board (history moves)
-guess-legal may board g entries moves guess = subst (λ b. IsLegal b (history moves)) guess.of_board guess.stands.legal
+pub guess-legal : (may : Unseen) (board : Board) (g : Guess) (entries : List Entry)
+    (moves : List Move) → IsGuess may board g entries moves → IsLegal board (history moves)
+guess-legal may board g entries moves guess =
+    subst (λ b. IsLegal b (history moves)) guess.of_board guess.stands.legal
 
 -- and so is that of what it moves on to
 pub moved-legal : (board : Board) (p new : Standing) (e : Event) (h : List Event) → p.board ≡ board → new.board ≡ p.board → MovesOn p e new → StandsAfter p h → IsLegal board (h ++ e ∷ [])
 moved-legal board p new e h is same moves stands = subst (λ b. IsLegal b (h ++ e ∷ [])) (same ∙ is) (moves h stands).legal
 
 -- a step of one event moves a guess on by that
-pub goes-by-event : (may : Unseen) (g new : Guess) (step : Step) (e : Event) → ((move : Move) → IsOf step move → move ≡ Move.happens e)
-    → ((board : Board) (entries : List Entry) (moves : List Move) → IsGuess may board g entries moves → IsGuess may board new entries (Move.happens e ∷ moves)) → GoesOn may g step new
+pub goes-by-event : (may : Unseen) (g new : Guess) (step : Step) (e : Event)
+    → ((move : Move) → IsOf step move → move ≡ Move.happens e)
+    → ((board : Board) (entries : List Entry) (moves : List Move)
+    → IsGuess may board g entries moves → IsGuess may board new entries (Move.happens e ∷ moves))
+    → GoesOn may g step new
 goes-by-event may g new step e only goes =
     record {
       some = λ board entries moves guess. (Move.happens e, goes board entries moves guess);
-      each = λ board entries moves move is guess can. subst (λ m. IsGuess may board new entries (m ∷ moves)) (sym (only move is)) (goes board entries moves guess);
+      each =
+          λ board entries moves move is guess can. subst
+          (λ m. IsGuess may board new entries (m ∷ moves)) (sym (only move is))
+          (goes board entries moves guess);
     }
 
 -- an event that posts nothing moves a guess on: the end of a set, or a restart
-pub goes-unsent : (may : Unseen) (g new : Guess) (step : Step) (e : Event) → ((move : Move) → IsOf step move → move ≡ Move.happens e)
+pub goes-unsent : (may : Unseen) (g new : Guess) (step : Step) (e : Event)
+    → ((move : Move) → IsOf step move → move ≡ Move.happens e)
     → ((a : ℕ) → is_sent_by a e ≡ false)
-    → ((h : List Event) (entries : List Entry) → StandsAfter g.platform h → IsUnseenEvent may g.platform.board entries h e) → MovesOn g.platform e new.platform → new.platform.board ≡ g.platform.board → new.posted ≡ g.posted
+    → ((h : List Event) (entries : List Entry) → StandsAfter g.platform h
+    → IsUnseenEvent may g.platform.board entries h e) → MovesOn g.platform e new.platform
+    → new.platform.board ≡ g.platform.board → new.posted ≡ g.posted
     → new.outstanding ≡ g.outstanding → GoesOn may g step new
-goes-unsent may g new step e only unsent unseen goes same posted commands = goes-by-event may g new step e only by where
-  by : (board : Board) (entries : List Entry) (moves : List Move) → IsGuess may board g entries moves → IsGuess may board new entries (Move.happens e ∷ moves)
-  by board entries moves guess =
-      record {
-        of_board = same ∙ guess.of_board;
-        behind = Behind.unseen guess.behind (Move.happens e) (subst (λ b. IsUnseenEvent may b entries (history moves) e) guess.of_board (unseen (history moves) entries guess.stands));
-        stands = goes (history moves) guess.stands;
-        channels = λ a agent.
-            delivered_kept board a (history moves) e (guess-legal may board g entries moves guess) (unsent a) ∙ guess.channels a agent
-            ∙ ap (λ ps. taken_by a entries ++ option_to_list (get_or ps (a - 1) None)) (sym posted);
-        commands = λ k. ap (λ cs. get_or cs k None) commands ∙ guess.commands k;
-        places = ap length commands ∙ guess.places;
-      }
+goes-unsent may g new step e only unsent unseen goes same posted commands =
+    goes-by-event may g new step e only by where
+      by : (board : Board) (entries : List Entry) (moves : List Move)
+          → IsGuess may board g entries moves → IsGuess may board new entries (Move.happens e ∷ moves)
+      by board entries moves guess =
+          record {
+            of_board = same ∙ guess.of_board;
+            behind =
+                Behind.unseen guess.behind (Move.happens e)
+                (subst (λ b. IsUnseenEvent may b entries (history moves) e) guess.of_board
+                (unseen (history moves) entries guess.stands));
+            stands = goes (history moves) guess.stands;
+            channels = λ a agent.
+                delivered_kept board a (history moves) e (guess-legal may board g entries moves guess)
+                (unsent a) ∙ guess.channels a agent
+                ∙ ap (λ ps. taken_by a entries ++ option_to_list (get_or ps (a - 1) None))
+                (sym posted);
+            commands = λ k. ap (λ cs. get_or cs k None) commands ∙ guess.commands k;
+            places = ap length commands ∙ guess.places;
+          }
 
 -- what is in a channel
 channel-of : (taken given : List Message) (posted : Option Message) → given ≡ taken ++ option_to_list posted → posted ≡ None → given ≡ taken
@@ -97,64 +115,97 @@ decide b a = by (b == a) refl where
 -- a posting moves a guess on
 pub goes-by-posting : (may : Unseen) (g new : Guess) (a : ℕ) (m : Message) → IsAgent (length g.platform.board.agents) a → a - 1 < length g.posted → posted_to g a ≡ None
     → ((h : List Event) → StandsAfter g.platform h → slice_get (outbox g.platform.board a h) 0 ≡ Some m)
-    → MovesOn g.platform (Sent a) new.platform → new.platform.board ≡ g.platform.board → new.posted ≡ set g.posted (a - 1) (Some m)
+    → MovesOn g.platform (Sent a) new.platform → new.platform.board ≡ g.platform.board
+    → new.posted ≡ set g.posted (a - 1) (Some m)
     → new.outstanding ≡ g.outstanding → GoesOn may g (Post a) new
-goes-by-posting may g new a m agent within empty first goes same posted commands = goes-by-event may g new (Post a) (Sent a) (λ move is. is) moved where
-  moved : (board : Board) (entries : List Entry) (moves : List Move) → IsGuess may board g entries moves → IsGuess may board new entries (Move.happens (Sent a) ∷ moves)
-  moved board entries moves guess =
-      let here : IsAgent (length board.agents) a = subst (λ b. IsAgent (length b.agents) a) guess.of_board agent in
-      let none = channel-of (taken_by a entries) (delivered_messages board a h) (posted_to g a) (guess.channels a here) empty in
-      let front : slice_get (outbox board a h) 0 ≡ Some m = subst (λ b. slice_get (outbox b a h) 0 ≡ Some m) guess.of_board (first h guess.stands) in
-      record {
-        of_board = same ∙ guess.of_board;
-        behind = Behind.unseen guess.behind (Move.happens (Sent a)) none;
-        stands = goes h guess.stands;
-        channels = λ b is. at none front b is (decide b a);
-        commands = λ k. ap (λ cs. get_or cs k None) commands ∙ guess.commands k;
-        places = ap length commands ∙ guess.places;
-      } where
-        h : List Event
-        h = history moves
+goes-by-posting may g new a m agent within empty first goes same posted commands =
+    goes-by-event may g new (Post a) (Sent a) (λ move is. is) moved where
+      moved : (board : Board) (entries : List Entry) (moves : List Move)
+          → IsGuess may board g entries moves
+          → IsGuess may board new entries (Move.happens (Sent a) ∷ moves)
+      moved board entries moves guess =
+          let here : IsAgent (length board.agents) a =
+          subst (λ b. IsAgent (length b.agents) a) guess.of_board agent in
+          let none =
+          channel-of (taken_by a entries) (delivered_messages board a h) (posted_to g a)
+          (guess.channels a here) empty in
+          let front : slice_get (outbox board a h) 0 ≡ Some m =
+          subst (λ b. slice_get (outbox b a h) 0 ≡ Some m) guess.of_board (first h guess.stands) in
+          record {
+            of_board = same ∙ guess.of_board;
+            behind = Behind.unseen guess.behind (Move.happens (Sent a)) none;
+            stands = goes h guess.stands;
+            channels = λ b is. at none front b is (decide b a);
+            commands = λ k. ap (λ cs. get_or cs k None) commands ∙ guess.commands k;
+            places = ap length commands ∙ guess.places;
+          } where
+            h : List Event
+            h = history moves
 
-        at : delivered_messages board a h ≡ taken_by a entries → slice_get (outbox board a h) 0 ≡ Some m → (b : ℕ) → IsAgent (length board.agents) b → (b ≡ a) ⊎ (b ≢ a)
-            → delivered_messages board b (h ++ Sent a ∷ []) ≡ taken_by b entries ++ option_to_list (posted_to new b)
-        at none front b is (inl own) =
-            subst (λ x. delivered_messages board x (h ++ Sent a ∷ []) ≡ taken_by x entries ++ option_to_list (posted_to new x)) (sym own)
-            (delivered_sent board a h m front ∙ ap (λ ms. ms ++ m ∷ []) none
-            ∙ ap (λ p. taken_by a entries ++ option_to_list p) (sym (ap (λ ps. get_or ps (a - 1) None) posted ∙ get_or-set_same g.posted (a - 1) (Some m) None within)))
-        at none front b is (inr other) =
-            delivered_other board b a h (guess-legal may board g entries moves guess) other ∙ guess.channels b is
-            ∙ ap (λ p. taken_by b entries ++ option_to_list p)
-            (sym (ap (λ ps. get_or ps (b - 1) None) posted ∙ get_or-set_other g.posted (a - 1) (b - 1) (Some m) None (other-place a b agent.0 is.0 other)))
+            at : delivered_messages board a h ≡ taken_by a entries
+                → slice_get (outbox board a h) 0 ≡ Some m → (b : ℕ) → IsAgent (length board.agents) b
+                → (b ≡ a) ⊎ (b ≢ a)
+                → delivered_messages board b (h ++ Sent a ∷ []) ≡ taken_by b entries
+                ++ option_to_list (posted_to new b)
+            at none front b is (inl own) =
+                subst (λ x. delivered_messages board x (h ++ Sent a ∷ []) ≡ taken_by x entries
+                ++ option_to_list (posted_to new x)) (sym own)
+                (delivered_sent board a h m front ∙ ap (λ ms. ms ++ m ∷ []) none
+                ∙ ap (λ p. taken_by a entries ++ option_to_list p)
+                (sym (ap (λ ps. get_or ps (a - 1) None) posted
+                ∙ get_or-set_same g.posted (a - 1) (Some m) None within)))
+            at none front b is (inr other) =
+                delivered_other board b a h (guess-legal may board g entries moves guess) other
+                ∙ guess.channels b is
+                ∙ ap (λ p. taken_by b entries ++ option_to_list p)
+                (sym (ap (λ ps. get_or ps (b - 1) None) posted
+                ∙ get_or-set_other g.posted (a - 1) (b - 1) (Some m) None
+                (other-place a b agent.0 is.0 other)))
 
 -- no posting into a channel that is not empty
-pub full-cannot : (may : Unseen) (g : Guess) (a : ℕ) (m : Message) → IsAgent (length g.platform.board.agents) a → posted_to g a ≡ Some m → CannotCome may g (Post a)
+pub full-cannot : (may : Unseen) (g : Guess) (a : ℕ) (m : Message)
+    → IsAgent (length g.platform.board.agents) a → posted_to g a ≡ Some m
+    → CannotCome may g (Post a)
 full-cannot may g a m agent full board entries moves move is guess can =
     let sent = subst (CanCome may board entries moves) is can in
     channel-full (taken_by a entries) (delivered_messages board a (history moves)) (posted_to g a) m
-    (guess.channels a (subst (λ b. IsAgent (length b.agents) a) guess.of_board agent)) full sent.unseen
+    (guess.channels a (subst
+    (λ b. IsAgent (length b.agents) a) guess.of_board agent)) full sent.unseen
 
 -- nor of an event that can't follow
-pub cannot-follow : (may : Unseen) (g : Guess) (step : Step) (e : Event) → ((move : Move) → IsOf step move → move ≡ Move.happens e)
-    → ((h : List Event) → StandsAfter g.platform h → ¬ (CanFollow g.platform.board h e)) → CannotCome may g step
+pub cannot-follow : (may : Unseen) (g : Guess) (step : Step) (e : Event)
+    → ((move : Move) → IsOf step move → move ≡ Move.happens e)
+    → ((h : List Event) → StandsAfter g.platform h → ¬ (CanFollow g.platform.board h e))
+    → CannotCome may g step
 cannot-follow may g step e only cannot board entries moves move is guess can =
     let own = subst (CanCome may board entries moves) (only move is) can in
-    cannot (history moves) guess.stands (subst (λ b. CanFollow b (history moves) e) (sym guess.of_board) own.follows)
+    cannot (history moves) guess.stands
+    (subst (λ b. CanFollow b (history moves) e) (sym guess.of_board) own.follows)
 
 -- nor one that may not happen
-pub cannot-happen : (may : Unseen) (g : Guess) (step : Step) (e : Event) → ((move : Move) → IsOf step move → move ≡ Move.happens e)
-    → ((h : List Event) (entries : List Entry) → StandsAfter g.platform h → ¬ (IsUnseenEvent may g.platform.board entries h e)) → CannotCome may g step
+pub cannot-happen : (may : Unseen) (g : Guess) (step : Step) (e : Event)
+    → ((move : Move) → IsOf step move → move ≡ Move.happens e)
+    → ((h : List Event) (entries : List Entry) → StandsAfter g.platform h
+    → ¬ (IsUnseenEvent may g.platform.board entries h e)) → CannotCome may g step
 cannot-happen may g step e only cannot board entries moves move is guess can =
     let own = subst (CanCome may board entries moves) (only move is) can in
-    cannot (history moves) entries guess.stands (subst (λ b. IsUnseenEvent may b entries (history moves) e) (sym guess.of_board) own.unseen)
+    cannot (history moves) entries guess.stands
+    (subst (λ b. IsUnseenEvent may b entries (history moves) e) (sym guess.of_board) own.unseen)
 
 -- an agent that takes what was posted to it
 module _ (may : Unseen) (g new : Guess) (a : ℕ) (m : Message) (agent : IsAgent (length g.platform.board.agents) a) (within : a - 1 < length g.posted) (full : posted_to g a ≡ Some m)
-    (same : new.platform ≡ g.platform) (posted : new.posted ≡ set g.posted (a - 1) None) (commands : new.outstanding ≡ g.outstanding) where
-  taken-at : (board : Board) (entries : List Entry) (moves : List Move) → IsGuess may board g entries moves → (b : ℕ) → IsAgent (length board.agents) b → (b ≡ a) ⊎ (b ≢ a)
-      → delivered_messages board b (history moves) ≡ (taken_by b entries ++ option_to_list (if b == a then Some m else None)) ++ option_to_list (posted_to new b)
+    (same : new.platform ≡ g.platform) (posted : new.posted ≡ set g.posted (a - 1) None)
+    (commands : new.outstanding ≡ g.outstanding) where
+  taken-at : (board : Board) (entries : List Entry) (moves : List Move)
+      → IsGuess may board g entries moves → (b : ℕ) → IsAgent (length board.agents) b
+      → (b ≡ a) ⊎ (b ≢ a)
+      → delivered_messages board b (history moves)
+      ≡ (taken_by b entries ++ option_to_list (if b == a then Some m else None))
+      ++ option_to_list (posted_to new b)
   taken-at board entries moves guess b is (inl own) =
-      subst (λ x. delivered_messages board x (history moves) ≡ (taken_by x entries ++ option_to_list (if x == a then Some m else None)) ++ option_to_list (posted_to new x)) (sym own)
+      subst (λ x. delivered_messages board x (history moves)
+      ≡ (taken_by x entries ++ option_to_list (if x == a then Some m else None))
+      ++ option_to_list (posted_to new x)) (sym own)
       (guess.channels a (subst (λ b. IsAgent (length b.agents) a) guess.of_board agent) ∙ ap (λ p. taken_by a entries ++ option_to_list p) full
       ∙ sym (ap (λ p. (taken_by a entries ++ option_to_list (if a == a then Some m else None)) ++ option_to_list p)
       (ap (λ ps. get_or ps (a - 1) None) posted ∙ get_or-set_same g.posted (a - 1) None None within)
@@ -167,16 +218,23 @@ module _ (may : Unseen) (g new : Guess) (a : ℕ) (m : Message) (agent : IsAgent
       ∙ ap (λ ms. ms ++ option_to_list (posted_to new b))
       (sym (ap (λ c. taken_by b entries ++ option_to_list (if c then Some m else None)) (ne_eqb b a other) ∙ append-nil (taken_by b entries)))
 
-  taken-each : (board : Board) (entries : List Entry) (moves after : List Move) → IsGuess may board g entries moves → CanShow board entries moves (Delivered a m) after
+  taken-each : (board : Board) (entries : List Entry) (moves after : List Move)
+      → IsGuess may board g entries moves → CanShow board entries moves (Delivered a m) after
       → IsGuess may board new (Delivered a m ∷ entries) after
   taken-each board entries moves after guess can =
       let nothing : after ≡ moves = can.fits.1 in
       record {
         of_board = ap (λ (p : Standing). p.board) same ∙ guess.of_board;
         behind = Behind.shown guess.behind (Delivered a m) after can.fits;
-        stands = subst (λ p. StandsAfter p (history after)) (sym same) (subst (λ k. StandsAfter g.platform (history k)) (sym nothing) guess.stands);
-        channels = λ b is. ap (λ k. delivered_messages board b (history k)) nothing ∙ taken-at board entries moves guess b is (decide b a);
-        commands = λ k. ap (λ cs. get_or cs k None) commands ∙ guess.commands k ∙ ap (outstanding_at k) (sym nothing);
+        stands =
+            subst (λ p. StandsAfter p (history after)) (sym same)
+            (subst (λ k. StandsAfter g.platform (history k)) (sym nothing) guess.stands);
+        channels =
+            λ b is. ap (λ k. delivered_messages board b (history k)) nothing
+            ∙ taken-at board entries moves guess b is (decide b a);
+        commands =
+            λ k. ap (λ cs. get_or cs k None) commands ∙ guess.commands k
+            ∙ ap (outstanding_at k) (sym nothing);
         places = ap length commands ∙ guess.places;
       }
 
@@ -200,28 +258,40 @@ module _ (may : Unseen) (g new : Guess) (a : ℕ) (m : Message) (agent : IsAgent
 -- an agent does not take what was not posted to it
 pub other-message : (may : Unseen) (g : Guess) (a : ℕ) (m : Message) → posted_to g a ≢ Some m → GivesNot may g (Delivered a m)
 other-message may g a m other board entries moves after guess can =
-    other (channel-has (taken_by a entries) (delivered_messages board a (history moves)) (posted_to g a) m (guess.channels a can.fits.0) can.fits.2)
+    other (channel-has (taken_by a entries) (delivered_messages board a (history moves))
+    (posted_to g a) m (guess.channels a can.fits.0) can.fits.2)
 
 -- nor one that the board lacks
 pub stranger-message : (may : Unseen) (g : Guess) (a : ℕ) (m : Message) → ¬ (IsAgent (length g.platform.board.agents) a) → GivesNot may g (Delivered a m)
-stranger-message may g a m away board entries moves after guess can = away (subst (λ b. IsAgent (length b.agents) a) (sym guess.of_board) can.fits.0)
+stranger-message may g a m away board entries moves after guess can =
+    away (subst (λ b. IsAgent (length b.agents) a) (sym guess.of_board) can.fits.0)
 
 -- a platform that answers a command, executed or refused by the hardware
 module _ (may : Unseen) (g new : Guess) (a : ℕ) (f : Frame) (x : Answer) (e : Event) where
-  answered-each : ((b : ℕ) → is_sent_by b e ≡ false) → MovesOn g.platform e new.platform → new.platform.board ≡ g.platform.board → new.posted ≡ g.posted
+  answered-each : ((b : ℕ) → is_sent_by b e ≡ false) → MovesOn g.platform e new.platform
+      → new.platform.board ≡ g.platform.board → new.posted ≡ g.posted
       → new.outstanding ≡ g.outstanding
-      → (board : Board) (entries : List Entry) (moves after : List Move) → after ≡ Move.happens e ∷ moves → IsGuess may board g entries moves → Fits board entries moves (Answered a f x) after
+      → (board : Board) (entries : List Entry) (moves after : List Move)
+      → after ≡ Move.happens e ∷ moves → IsGuess may board g entries moves
+      → Fits board entries moves (Answered a f x) after
       → IsGuess may board new (Answered a f x ∷ entries) after
   answered-each unsent goes same posted commands board entries moves after are guess fits =
       record {
         of_board = same ∙ guess.of_board;
         behind = Behind.shown guess.behind (Answered a f x) after fits;
-        stands = subst (λ ms. StandsAfter new.platform (history ms)) (sym are) (goes (history moves) guess.stands);
+        stands =
+            subst (λ ms. StandsAfter new.platform (history ms)) (sym are)
+            (goes (history moves) guess.stands);
         channels = λ b is.
-            ap (λ ms. delivered_messages board b (history ms)) are ∙ delivered_kept board b (history moves) e (guess-legal may board g entries moves guess) (unsent b) ∙ guess.channels b is
+            ap (λ ms. delivered_messages board b (history ms)) are
+            ∙ delivered_kept board b (history moves) e (guess-legal may board g entries moves guess)
+            (unsent b) ∙ guess.channels b is
             ∙ ap (λ ps. taken_by b entries ++ option_to_list (get_or ps (b - 1) None)) (sym posted)
-            ∙ ap (λ ms. ms ++ option_to_list (posted_to new b)) (sym (append-nil (taken_by b entries)));
-        commands = λ k. ap (λ cs. get_or cs k None) commands ∙ guess.commands k ∙ ap (outstanding_at k) (sym are);
+            ∙ ap (λ ms. ms ++ option_to_list (posted_to new b))
+            (sym (append-nil (taken_by b entries)));
+        commands =
+            λ k. ap (λ cs. get_or cs k None) commands ∙ guess.commands k
+            ∙ ap (outstanding_at k) (sym are);
         places = ap length commands ∙ guess.places;
       }
 
@@ -236,21 +306,38 @@ gives-done may g new a f x goes same posted commands due only =
       some = λ board entries moves guess. (
         Move.happens (Command a f) ∷ moves,
         record {
-          fits = (Command a f, refl, inl (refl, subst (λ b. x ≡ answer_to b a f (history moves)) guess.of_board (due (history moves) guess.stands)));
-          legal = moved-legal board g.platform new.platform (Command a f) (history moves) guess.of_board same goes guess.stands;
+          fits = (
+            Command a f,
+            refl,
+            inl (
+              refl,
+              subst (λ b. x ≡ answer_to b a f (history moves)) guess.of_board
+                  (due (history moves) guess.stands),
+            ),
+          );
+          legal =
+              moved-legal board g.platform new.platform (Command a f)
+              (history moves) guess.of_board same goes guess.stands;
         },
       );
-      each = λ board entries moves after guess can. by board entries moves after guess can.legal can.fits can.fits.2;
+      each =
+          λ board entries moves after guess can. by board entries moves after guess can.legal can.fits can.fits.2;
     } where
-      by : (board : Board) (entries : List Entry) (moves after : List Move) → IsGuess may board g entries moves → IsLegal board (history after) → (fits : Fits board entries moves (Answered a f x) after)
-          → IsAnswered board (history moves) a f fits.0 x → IsGuess may board new (Answered a f x ∷ entries) after
+      by : (board : Board) (entries : List Entry) (moves after : List Move)
+          → IsGuess may board g entries moves → IsLegal board (history after)
+          → (fits : Fits board entries moves (Answered a f x) after)
+          → IsAnswered board (history moves) a f fits.0 x
+          → IsGuess may board new (Answered a f x ∷ entries) after
       by board entries moves after guess legal fits (inl done) =
-          answered-each may g new a f x (Command a f) (λ b. refl) goes same posted commands board entries moves after (fits.1 ∙ ap (λ e. Move.happens e ∷ moves) done.0) guess fits
+          answered-each may g new a f x (Command a f)
+          (λ b. refl) goes same posted commands board entries moves after
+          (fits.1 ∙ ap (λ e. Move.happens e ∷ moves) done.0) guess fits
       by board entries moves after guess legal fits (inr failed) =
           let are = fits.1 ∙ ap (λ e. Move.happens e ∷ moves) failed.0 in
           absurd (only (history moves) guess.stands
           (subst (λ b. effect_after b (history moves) (Command a f) ≢ None) (sym guess.of_board)
-          (IsLegal-last board (history moves) (CommandFailed a f) (subst (λ ms. IsLegal board (history ms)) are legal)).1) failed.1)
+          (IsLegal-last board (history moves) (CommandFailed a f)
+          (subst (λ ms. IsLegal board (history ms)) are legal)).1) failed.1)
 
 pub gives-failed : (may : Unseen) (g new : Guess) (a : ℕ) (f : Frame) (x : Answer) → MovesOn g.platform (CommandFailed a f) new.platform → new.platform.board ≡ g.platform.board → new.posted ≡ g.posted
     → new.outstanding ≡ g.outstanding
@@ -262,42 +349,59 @@ gives-failed may g new a f x goes same posted commands due only =
         Move.happens (CommandFailed a f) ∷ moves,
         record {
           fits = (CommandFailed a f, refl, inr (refl, due));
-          legal = moved-legal board g.platform new.platform (CommandFailed a f) (history moves) guess.of_board same goes guess.stands;
+          legal =
+              moved-legal board g.platform new.platform (CommandFailed a f)
+              (history moves) guess.of_board same goes guess.stands;
         },
       );
-      each = λ board entries moves after guess can. by board entries moves after guess can.fits can.fits.2;
+      each =
+          λ board entries moves after guess can. by board entries moves after guess can.fits can.fits.2;
     } where
-      by : (board : Board) (entries : List Entry) (moves after : List Move) → IsGuess may board g entries moves → (fits : Fits board entries moves (Answered a f x) after)
-          → IsAnswered board (history moves) a f fits.0 x → IsGuess may board new (Answered a f x ∷ entries) after
+      by : (board : Board) (entries : List Entry) (moves after : List Move)
+          → IsGuess may board g entries moves
+          → (fits : Fits board entries moves (Answered a f x) after)
+          → IsAnswered board (history moves) a f fits.0 x
+          → IsGuess may board new (Answered a f x ∷ entries) after
       by board entries moves after guess fits (inr failed) =
-          answered-each may g new a f x (CommandFailed a f) (λ b. refl) goes same posted commands board entries moves after (fits.1 ∙ ap (λ e. Move.happens e ∷ moves) failed.0) guess fits
+          answered-each may g new a f x (CommandFailed a f)
+          (λ b. refl) goes same posted commands board entries moves after
+          (fits.1 ∙ ap (λ e. Move.happens e ∷ moves) failed.0) guess fits
       by board entries moves after guess fits (inl done) =
-          absurd (only (history moves) guess.stands (subst (λ b. x ≡ answer_to b a f (history moves)) (sym guess.of_board) done.1))
+          absurd (only (history moves) guess.stands
+          (subst (λ b. x ≡ answer_to b a f (history moves)) (sym guess.of_board) done.1))
 
 pub other-answer : (may : Unseen) (g : Guess) (a : ℕ) (f : Frame) (x : Answer) → ((h : List Event) → StandsAfter g.platform h → x ≢ answer_to g.platform.board a f h)
     → ((h : List Event) → StandsAfter g.platform h → effect_after g.platform.board h (Command a f) ≢ None → x ≢ failed_answer f)
     → GivesNot may g (Answered a f x)
-other-answer may g a f x undone unfailed board entries moves after guess can = by can.fits can.fits.2 where
-  by : (fits : Fits board entries moves (Answered a f x) after) → IsAnswered board (history moves) a f fits.0 x → ⊥
-  by fits (inl done) = undone (history moves) guess.stands (subst (λ b. x ≡ answer_to b a f (history moves)) (sym guess.of_board) done.1)
-  by fits (inr failed) =
-      unfailed (history moves) guess.stands
-      (subst (λ b. effect_after b (history moves) (Command a f) ≢ None) (sym guess.of_board)
-      (IsLegal-last board (history moves) (CommandFailed a f)
-      (subst (λ ms. IsLegal board (history ms)) (fits.1 ∙ ap (λ e. Move.happens e ∷ moves) failed.0) can.legal)).1) failed.1
+other-answer may g a f x undone unfailed board entries moves after guess can =
+    by can.fits can.fits.2 where
+      by : (fits : Fits board entries moves (Answered a f x) after)
+          → IsAnswered board (history moves) a f fits.0 x → ⊥
+      by fits (inl done) =
+          undone (history moves) guess.stands
+          (subst (λ b. x ≡ answer_to b a f (history moves)) (sym guess.of_board) done.1)
+      by fits (inr failed) =
+          unfailed (history moves) guess.stands
+          (subst (λ b. effect_after b (history moves) (Command a f) ≢ None) (sym guess.of_board)
+          (IsLegal-last board (history moves) (CommandFailed a f)
+          (subst (λ ms. IsLegal board (history ms))
+          (fits.1 ∙ ap (λ e. Move.happens e ∷ moves) failed.0) can.legal)).1) failed.1
 
 pub stranger-answer : (may : Unseen) (g : Guess) (a : ℕ) (f : Frame) (x : Answer) → ¬ (IsAgent (length g.platform.board.agents) a) → GivesNot may g (Answered a f x)
 stranger-answer may g a f x away board entries moves after guess can = by can.fits can.fits.2 where
   here : IsAgent (length board.agents) a → ⊥
   here is = away (subst (λ b. IsAgent (length b.agents) a) (sym guess.of_board) is)
 
-  by : (fits : Fits board entries moves (Answered a f x) after) → IsAnswered board (history moves) a f fits.0 x → ⊥
+  by : (fits : Fits board entries moves (Answered a f x) after)
+      → IsAnswered board (history moves) a f fits.0 x → ⊥
   by fits (inl done) =
       here (IsLegal-last board (history moves) (Command a f)
-      (subst (λ ms. IsLegal board (history ms)) (fits.1 ∙ ap (λ e. Move.happens e ∷ moves) done.0) can.legal))
+      (subst (λ ms. IsLegal board (history ms))
+      (fits.1 ∙ ap (λ e. Move.happens e ∷ moves) done.0) can.legal))
   by fits (inr failed) =
       here (IsLegal-last board (history moves) (CommandFailed a f)
-      (subst (λ ms. IsLegal board (history ms)) (fits.1 ∙ ap (λ e. Move.happens e ∷ moves) failed.0) can.legal)).0
+      (subst (λ ms. IsLegal board (history ms))
+      (fits.1 ∙ ap (λ e. Move.happens e ∷ moves) failed.0) can.legal)).0
 
 -- at the start nothing was posted, and no command is outstanding
 eight_none : (X : Type 0) → List (Option X)
@@ -324,7 +428,10 @@ guess-start may board g same stands none free =
       of_board = same;
       behind = Behind.nothing;
       stands = stands;
-      channels = λ a agent. delivered_empty board a ∙ ap option_to_list (sym (ap (λ ps. get_or ps (a - 1) None) none ∙ none-at Message (a - 1)));
+      channels =
+          λ a agent. delivered_empty board a
+          ∙ ap option_to_list (sym
+          (ap (λ ps. get_or ps (a - 1) None) none ∙ none-at Message (a - 1)));
       commands = λ k. ap (λ cs. get_or cs k None) free ∙ none-at Outstanding k;
       places = ap length free;
     }

@@ -34,7 +34,8 @@ shown-more : {X : Type 0} (shows : Entry → Option X) (entry : Entry) (entries 
 shown-more shows entry entries = ap (filter_map shows) (reverse-append (entry ∷ []) entries) ∙ filter_map-append shows (reverse entries) (entry ∷ [])
 
 -- an unseen event is no command
-quiet : (may : Unseen) (board : Board) (entries : List Entry) (h : List Event) (e : Event) → IsUnseenEvent may board entries h e → IsQuiet e
+quiet : (may : Unseen) (board : Board) (entries : List Entry) (h : List Event) (e : Event)
+    → IsUnseenEvent may board entries h e → IsQuiet e
 quiet may board entries h Advance is = advance
 quiet may board entries h AdvanceFailed is = advance_failed
 quiet may board entries h (Sent a) is = sent_to a
@@ -55,70 +56,107 @@ one-if true x = refl
 one-if false x = refl
 
 -- the entries before the last are not of commands that are answered later if none is
-rest-at-once : (entry : Entry) (entries : List Entry) → All IsAtOnce (entry ∷ entries) → All IsAtOnce entries
+rest-at-once : (entry : Entry) (entries : List Entry) → All IsAtOnce (entry ∷ entries)
+    → All IsAtOnce entries
 rest-at-once entry entries all k d less = all (suc k) d (omega (arith, less))
 
 module _ (may : Unseen) (board : Board) where
   -- then no command is outstanding
-  pub none-outstanding : {entries : List Entry} {h : List Move} → Behind may board entries h → All IsAtOnce entries → (k : ℕ) → outstanding_at k h ≡ None
+  pub none-outstanding : {entries : List Entry} {h : List Move} → Behind may board entries h
+      → All IsAtOnce entries → (k : ℕ) → outstanding_at k h ≡ None
   none-outstanding Behind.nothing all k = refl
-  none-outstanding (Behind.unseen {entries} {moves = h} behind (Move.happens e) is) all k = none-outstanding behind all k
+  none-outstanding (Behind.unseen {entries} {moves = h} behind (Move.happens e) is) all k =
+      none-outstanding behind all k
   none-outstanding (Behind.unseen {entries} {moves = h} behind (Move.executes j e x) is) all k =
-      absurd (let no : None ≡ Some (outstanding is.0 is.1 None) = sym (none-outstanding behind all j) ∙ is.2 in cc)
-  none-outstanding (Behind.unseen {entries} {moves = h} behind (Move.asks j a f) is) all k = absurd is
+      absurd (let no : None ≡ Some (outstanding is.0 is.1 None) =
+      sym (none-outstanding behind all j) ∙ is.2 in cc)
+  none-outstanding (Behind.unseen {entries} {moves = h} behind (Move.asks j a f) is) all k =
+      absurd is
   none-outstanding (Behind.unseen {entries} {moves = h} behind (Move.frees j) is) all k = absurd is
   none-outstanding (Behind.shown {entries} {moves = h} behind (Answered b f x) after fits) all k =
-      ap (outstanding_at k) fits.1 ∙ none-outstanding behind (rest-at-once (Answered b f x) entries all) k
+      ap (outstanding_at k) fits.1
+      ∙ none-outstanding behind (rest-at-once (Answered b f x) entries all) k
   none-outstanding (Behind.shown {entries} {moves = h} behind (Delivered b m) after fits) all k =
-      ap (outstanding_at k) fits.1 ∙ none-outstanding behind (rest-at-once (Delivered b m) entries all) k
-  none-outstanding (Behind.shown {entries} {moves = h} behind (Asked j b f) after fits) all k = absurd (All-head IsAtOnce (Asked j b f) entries all)
-  none-outstanding (Behind.shown {entries} {moves = h} behind (Replied j b f x) after fits) all k = absurd (All-head IsAtOnce (Replied j b f x) entries all)
-  none-outstanding (Behind.shown {entries} {moves = h} behind (GivenUp j) after fits) all k = absurd (All-head IsAtOnce (GivenUp j) entries all)
+      ap (outstanding_at k) fits.1
+      ∙ none-outstanding behind (rest-at-once (Delivered b m) entries all) k
+  none-outstanding (Behind.shown {entries} {moves = h} behind (Asked j b f) after fits) all k =
+      absurd (All-head IsAtOnce (Asked j b f) entries all)
+  none-outstanding (Behind.shown {entries} {moves = h} behind (Replied j b f x) after fits) all k =
+      absurd (All-head IsAtOnce (Replied j b f x) entries all)
+  none-outstanding (Behind.shown {entries} {moves = h} behind (GivenUp j) after fits) all k =
+      absurd (All-head IsAtOnce (GivenUp j) entries all)
 
   -- so none is executed that an entry does not show
-  none-executes : {entries : List Entry} {h : List Move} → Behind may board entries h → All IsAtOnce entries → (k : ℕ) (e : Event) (x : Answer)
+  none-executes : {entries : List Entry} {h : List Move} → Behind may board entries h
+      → All IsAtOnce entries → (k : ℕ) (e : Event) (x : Answer)
       → IsUnseen may board entries h (Move.executes k e x) → ⊥
   none-executes behind all k e x is =
-      absurd (let no : None ≡ Some (outstanding is.0 is.1 None) = sym (none-outstanding behind all k) ∙ is.2 in cc)
+      absurd (let no : None ≡ Some (outstanding is.0 is.1 None) =
+      sym (none-outstanding behind all k) ∙ is.2 in cc)
 
   -- and each move is an event
-  pub events-alone : {entries : List Entry} {h : List Move} → Behind may board entries h → All IsAtOnce entries → All IsEvent h
+  pub events-alone : {entries : List Entry} {h : List Move} → Behind may board entries h
+      → All IsAtOnce entries → All IsEvent h
   events-alone Behind.nothing all = All-nil IsEvent
-  events-alone (Behind.unseen {entries} {moves = h} behind (Move.happens e) is) all = All-cons IsEvent (Move.happens e) h tt (events-alone behind all)
-  events-alone (Behind.unseen {entries} {moves = h} behind (Move.executes j e x) is) all = absurd (none-executes behind all j e x is)
+  events-alone (Behind.unseen {entries} {moves = h} behind (Move.happens e) is) all =
+      All-cons IsEvent (Move.happens e) h tt (events-alone behind all)
+  events-alone (Behind.unseen {entries} {moves = h} behind (Move.executes j e x) is) all =
+      absurd (none-executes behind all j e x is)
   events-alone (Behind.unseen {entries} {moves = h} behind (Move.asks j a f) is) all = absurd is
   events-alone (Behind.unseen {entries} {moves = h} behind (Move.frees j) is) all = absurd is
   events-alone (Behind.shown {entries} {moves = h} behind (Answered b f x) after fits) all =
-      subst (All IsEvent) (sym fits.1) (All-cons IsEvent (Move.happens fits.0) h tt (events-alone behind (rest-at-once (Answered b f x) entries all)))
+      subst (All IsEvent) (sym fits.1)
+      (All-cons IsEvent (Move.happens fits.0) h tt
+      (events-alone behind (rest-at-once (Answered b f x) entries all)))
   events-alone (Behind.shown {entries} {moves = h} behind (Delivered b m) after fits) all =
-      subst (All IsEvent) (sym fits.1) (events-alone behind (rest-at-once (Delivered b m) entries all))
-  events-alone (Behind.shown {entries} {moves = h} behind (Asked j b f) after fits) all = absurd (All-head IsAtOnce (Asked j b f) entries all)
-  events-alone (Behind.shown {entries} {moves = h} behind (Replied j b f x) after fits) all = absurd (All-head IsAtOnce (Replied j b f x) entries all)
-  events-alone (Behind.shown {entries} {moves = h} behind (GivenUp j) after fits) all = absurd (All-head IsAtOnce (GivenUp j) entries all)
+      subst (All IsEvent) (sym fits.1)
+      (events-alone behind (rest-at-once (Delivered b m) entries all))
+  events-alone (Behind.shown {entries} {moves = h} behind (Asked j b f) after fits) all =
+      absurd (All-head IsAtOnce (Asked j b f) entries all)
+  events-alone (Behind.shown {entries} {moves = h} behind (Replied j b f x) after fits) all =
+      absurd (All-head IsAtOnce (Replied j b f x) entries all)
+  events-alone (Behind.shown {entries} {moves = h} behind (GivenUp j) after fits) all =
+      absurd (All-head IsAtOnce (GivenUp j) entries all)
 
   -- an answered command, done or failed, adds its frame and its answer
-  frames-answered : (entries : List Entry) (h after : List Move) (b : ℕ) (f : Frame) (x : Answer) → Fits board entries h (Answered b f x) after → (a : ℕ)
-      → frames_of a (history h) ≡ filter_map (frame_shown a) (reverse entries) → frames_of a (history after) ≡ filter_map (frame_shown a) (reverse (Answered b f x ∷ entries))
+  frames-answered : (entries : List Entry) (h after : List Move) (b : ℕ) (f : Frame) (x : Answer)
+      → Fits board entries h (Answered b f x) after → (a : ℕ)
+      → frames_of a (history h) ≡ filter_map (frame_shown a) (reverse entries)
+      → frames_of a (history after)
+      ≡ filter_map (frame_shown a) (reverse (Answered b f x ∷ entries))
   frames-answered entries h after b f x fits a before = by fits.2 where
-    more : (e : Event) → frame_from a e ≡ frame_shown a (Answered b f x) → fits.0 ≡ e → frames_of a (history after) ≡ filter_map (frame_shown a) (reverse (Answered b f x ∷ entries))
+    more : (e : Event) → frame_from a e ≡ frame_shown a (Answered b f x) → fits.0 ≡ e
+        → frames_of a (history after)
+        ≡ filter_map (frame_shown a) (reverse (Answered b f x ∷ entries))
     more e same is =
-        ap (λ ms. frames_of a (history ms)) (fits.1 ∙ ap (λ y. Move.happens y ∷ h) is) ∙ frames-more a (history h) e ∙ ap (λ o. frames_of a (history h) ++ cons_option o []) same
+        ap (λ ms. frames_of a (history ms)) (fits.1 ∙ ap (λ y. Move.happens y ∷ h) is)
+        ∙ frames-more a (history h) e ∙ ap (λ o. frames_of a (history h) ++ cons_option o []) same
         ∙ ap (λ fs. fs ++ cons_option (frame_shown a (Answered b f x)) []) before ∙ sym (shown-more (frame_shown a) (Answered b f x) entries)
 
-    by : IsAnswered board (history h) b f fits.0 x → frames_of a (history after) ≡ filter_map (frame_shown a) (reverse (Answered b f x ∷ entries))
+    by : IsAnswered board (history h) b f fits.0 x
+        → frames_of a (history after)
+        ≡ filter_map (frame_shown a) (reverse (Answered b f x ∷ entries))
     by (inl done) = more (Command b f) refl done.0
     by (inr failed) = more (CommandFailed b f) refl failed.0
 
-  answers-answered : (entries : List Entry) (h after : List Move) (b : ℕ) (f : Frame) (x : Answer) → Fits board entries h (Answered b f x) after → (a : ℕ)
-      → answers_to board a (history h) ≡ filter_map (answer_shown a) (reverse entries) → answers_to board a (history after) ≡ filter_map (answer_shown a) (reverse (Answered b f x ∷ entries))
+  answers-answered : (entries : List Entry) (h after : List Move) (b : ℕ) (f : Frame) (x : Answer)
+      → Fits board entries h (Answered b f x) after → (a : ℕ)
+      → answers_to board a (history h) ≡ filter_map (answer_shown a) (reverse entries)
+      → answers_to board a (history after)
+      ≡ filter_map (answer_shown a) (reverse (Answered b f x ∷ entries))
   answers-answered entries h after b f x fits a before = by fits.2 where
-    more : (e : Event) → answer_for board a (history h) e ≡ cons_option (answer_shown a (Answered b f x)) [] → fits.0 ≡ e
-        → answers_to board a (history after) ≡ filter_map (answer_shown a) (reverse (Answered b f x ∷ entries))
+    more : (e : Event) → answer_for board a (history h) e
+        ≡ cons_option (answer_shown a (Answered b f x)) [] → fits.0 ≡ e
+        → answers_to board a (history after)
+        ≡ filter_map (answer_shown a) (reverse (Answered b f x ∷ entries))
     more e same is =
-        ap (λ ms. answers_to board a (history ms)) (fits.1 ∙ ap (λ y. Move.happens y ∷ h) is) ∙ answers-more board a (history h) e ∙ ap (λ xs. answers_to board a (history h) ++ xs) same
+        ap (λ ms. answers_to board a (history ms)) (fits.1 ∙ ap (λ y. Move.happens y ∷ h) is)
+        ∙ answers-more board a (history h) e ∙ ap (λ xs. answers_to board a (history h) ++ xs) same
         ∙ ap (λ xs. xs ++ cons_option (answer_shown a (Answered b f x)) []) before ∙ sym (shown-more (answer_shown a) (Answered b f x) entries)
 
-    by : IsAnswered board (history h) b f fits.0 x → answers_to board a (history after) ≡ filter_map (answer_shown a) (reverse (Answered b f x ∷ entries))
+    by : IsAnswered board (history h) b f fits.0 x
+        → answers_to board a (history after)
+        ≡ filter_map (answer_shown a) (reverse (Answered b f x ∷ entries))
     by (inl done) = more (Command b f) (ap (λ y. if a == b then y ∷ [] else []) (sym done.1) ∙ one-if (a == b) x) done.0
     by (inr failed) = more (CommandFailed b f) (ap (λ y. if a == b then y ∷ [] else []) (sym failed.1) ∙ one-if (a == b) x) failed.0
 
@@ -127,43 +165,67 @@ module _ (may : Unseen) (board : Board) where
   nothing-shown shows entry entries none =
       sym (shown-more shows entry entries ∙ ap (λ o. filter_map shows (reverse entries) ++ cons_option o []) none ∙ append-nil (filter_map shows (reverse entries)))
 
-  pub frames-shown : {entries : List Entry} {h : List Move} → Behind may board entries h → All IsAtOnce entries → (a : ℕ) → frames_of a (history h) ≡ filter_map (frame_shown a) (reverse entries)
+  pub frames-shown : {entries : List Entry} {h : List Move} → Behind may board entries h
+      → All IsAtOnce entries → (a : ℕ)
+      → frames_of a (history h) ≡ filter_map (frame_shown a) (reverse entries)
   frames-shown Behind.nothing all a = frames_empty a
   frames-shown (Behind.unseen {entries} {moves = h} behind (Move.happens e) is) all a =
-      frames_quiet a (history h) e (quiet may board entries (history h) e is) ∙ frames-shown behind all a
-  frames-shown (Behind.unseen {entries} {moves = h} behind (Move.executes j e x) is) all a = absurd (none-executes behind all j e x is)
+      frames_quiet a (history h) e (quiet may board entries (history h) e is)
+      ∙ frames-shown behind all a
+  frames-shown (Behind.unseen {entries} {moves = h} behind (Move.executes j e x) is) all a =
+      absurd (none-executes behind all j e x is)
   frames-shown (Behind.unseen {entries} {moves = h} behind (Move.asks j b f) is) all a = absurd is
   frames-shown (Behind.unseen {entries} {moves = h} behind (Move.frees j) is) all a = absurd is
   frames-shown (Behind.shown {entries} {moves = h} behind (Answered b f x) after fits) all a =
-      frames-answered entries h after b f x fits a (frames-shown behind (rest-at-once (Answered b f x) entries all) a)
+      frames-answered entries h after b f x fits a
+      (frames-shown behind (rest-at-once (Answered b f x) entries all) a)
   frames-shown (Behind.shown {entries} {moves = h} behind (Delivered b m) after fits) all a =
-      ap (λ ms. frames_of a (history ms)) fits.1 ∙ frames-shown behind (rest-at-once (Delivered b m) entries all) a ∙ nothing-shown (frame_shown a) (Delivered b m) entries refl
-  frames-shown (Behind.shown {entries} {moves = h} behind (Asked j b f) after fits) all a = absurd (All-head IsAtOnce (Asked j b f) entries all)
-  frames-shown (Behind.shown {entries} {moves = h} behind (Replied j b f x) after fits) all a = absurd (All-head IsAtOnce (Replied j b f x) entries all)
-  frames-shown (Behind.shown {entries} {moves = h} behind (GivenUp j) after fits) all a = absurd (All-head IsAtOnce (GivenUp j) entries all)
+      ap (λ ms. frames_of a (history ms)) fits.1
+      ∙ frames-shown behind (rest-at-once (Delivered b m) entries all) a
+      ∙ nothing-shown (frame_shown a) (Delivered b m) entries refl
+  frames-shown (Behind.shown {entries} {moves = h} behind (Asked j b f) after fits) all a =
+      absurd (All-head IsAtOnce (Asked j b f) entries all)
+  frames-shown (Behind.shown {entries} {moves = h} behind (Replied j b f x) after fits) all a =
+      absurd (All-head IsAtOnce (Replied j b f x) entries all)
+  frames-shown (Behind.shown {entries} {moves = h} behind (GivenUp j) after fits) all a =
+      absurd (All-head IsAtOnce (GivenUp j) entries all)
 
-  pub answers-shown : {entries : List Entry} {h : List Move} → Behind may board entries h → All IsAtOnce entries → (a : ℕ) → answers_to board a (history h) ≡ filter_map (answer_shown a) (reverse entries)
+  pub answers-shown : {entries : List Entry} {h : List Move} → Behind may board entries h
+      → All IsAtOnce entries → (a : ℕ)
+      → answers_to board a (history h) ≡ filter_map (answer_shown a) (reverse entries)
   answers-shown Behind.nothing all a = answers_empty board a
   answers-shown (Behind.unseen {entries} {moves = h} behind (Move.happens e) is) all a =
-      answers_quiet board a (history h) e (quiet may board entries (history h) e is) ∙ answers-shown behind all a
-  answers-shown (Behind.unseen {entries} {moves = h} behind (Move.executes j e x) is) all a = absurd (none-executes behind all j e x is)
+      answers_quiet board a (history h) e (quiet may board entries (history h) e is)
+      ∙ answers-shown behind all a
+  answers-shown (Behind.unseen {entries} {moves = h} behind (Move.executes j e x) is) all a =
+      absurd (none-executes behind all j e x is)
   answers-shown (Behind.unseen {entries} {moves = h} behind (Move.asks j b f) is) all a = absurd is
   answers-shown (Behind.unseen {entries} {moves = h} behind (Move.frees j) is) all a = absurd is
   answers-shown (Behind.shown {entries} {moves = h} behind (Answered b f x) after fits) all a =
-      answers-answered entries h after b f x fits a (answers-shown behind (rest-at-once (Answered b f x) entries all) a)
+      answers-answered entries h after b f x fits a
+      (answers-shown behind (rest-at-once (Answered b f x) entries all) a)
   answers-shown (Behind.shown {entries} {moves = h} behind (Delivered b m) after fits) all a =
-      ap (λ ms. answers_to board a (history ms)) fits.1 ∙ answers-shown behind (rest-at-once (Delivered b m) entries all) a ∙ nothing-shown (answer_shown a) (Delivered b m) entries refl
-  answers-shown (Behind.shown {entries} {moves = h} behind (Asked j b f) after fits) all a = absurd (All-head IsAtOnce (Asked j b f) entries all)
-  answers-shown (Behind.shown {entries} {moves = h} behind (Replied j b f x) after fits) all a = absurd (All-head IsAtOnce (Replied j b f x) entries all)
-  answers-shown (Behind.shown {entries} {moves = h} behind (GivenUp j) after fits) all a = absurd (All-head IsAtOnce (GivenUp j) entries all)
+      ap (λ ms. answers_to board a (history ms)) fits.1
+      ∙ answers-shown behind (rest-at-once (Delivered b m) entries all) a
+      ∙ nothing-shown (answer_shown a) (Delivered b m) entries refl
+  answers-shown (Behind.shown {entries} {moves = h} behind (Asked j b f) after fits) all a =
+      absurd (All-head IsAtOnce (Asked j b f) entries all)
+  answers-shown (Behind.shown {entries} {moves = h} behind (Replied j b f x) after fits) all a =
+      absurd (All-head IsAtOnce (Replied j b f x) entries all)
+  answers-shown (Behind.shown {entries} {moves = h} behind (GivenUp j) after fits) all a =
+      absurd (All-head IsAtOnce (GivenUp j) entries all)
 
   -- what is not posted to an agent, and no message that it takes, changes nothing
-  same-posted : (entries : List Entry) (h k : List Move) (entry : Entry) (a : ℕ) → delivered_messages board a (history k) ≡ delivered_messages board a (history h) → message_shown a entry ≡ None
-      → HasAtMostOne board entries (history h) a → HasAtMostOne board (entry ∷ entries) (history k) a
+  same-posted : (entries : List Entry) (h k : List Move) (entry : Entry) (a : ℕ)
+      → delivered_messages board a (history k) ≡ delivered_messages board a (history h)
+      → message_shown a entry ≡ None
+      → HasAtMostOne board entries (history h) a
+      → HasAtMostOne board (entry ∷ entries) (history k) a
   same-posted entries h k entry a kept none one =
       (one.0, kept ∙ one.1 ∙ ap (λ ms. ms ++ option_to_list one.0) (sym (ap (λ o. taken_by a entries ++ option_to_list o) none ∙ append-nil (taken_by a entries))))
 
-  posted-more : (entries : List Entry) (h : List Event) (e : Event) → IsLegal board (h ++ e ∷ []) → IsUnseenEvent may board entries h e → (a : ℕ) → HasAtMostOne board entries h a
+  posted-more : (entries : List Entry) (h : List Event) (e : Event) → IsLegal board (h ++ e ∷ [])
+      → IsUnseenEvent may board entries h e → (a : ℕ) → HasAtMostOne board entries h a
       → HasAtMostOne board entries (h ++ e ∷ []) a
   posted-more entries h Advance legal is a one = (one.0, delivered_kept board a h Advance (IsLegal-front board h Advance legal) refl ∙ one.1)
   posted-more entries h AdvanceFailed legal is a one = (one.0, delivered_kept board a h AdvanceFailed (IsLegal-front board h AdvanceFailed legal) refl ∙ one.1)
@@ -184,19 +246,29 @@ module _ (may : Unseen) (board : Board) where
   )
 
   -- a command that is executed posts nothing
-  delivered-answered : (h : List Event) (b : ℕ) (f : Frame) (e : Event) (x : Answer) → IsLegal board h → IsAnswered board h b f e x → (a : ℕ)
+  delivered-answered : (h : List Event) (b : ℕ) (f : Frame) (e : Event) (x : Answer)
+      → IsLegal board h → IsAnswered board h b f e x → (a : ℕ)
       → delivered_messages board a (h ++ e ∷ []) ≡ delivered_messages board a h
-  delivered-answered h b f e x legal (inl done) a = ap (λ y. delivered_messages board a (h ++ y ∷ [])) done.0 ∙ delivered_kept board a h (Command b f) legal refl
-  delivered-answered h b f e x legal (inr failed) a = ap (λ y. delivered_messages board a (h ++ y ∷ [])) failed.0 ∙ delivered_kept board a h (CommandFailed b f) legal refl
+  delivered-answered h b f e x legal (inl done) a =
+      ap (λ y. delivered_messages board a (h ++ y ∷ [])) done.0
+      ∙ delivered_kept board a h (Command b f) legal refl
+  delivered-answered h b f e x legal (inr failed) a =
+      ap (λ y. delivered_messages board a (h ++ y ∷ [])) failed.0
+      ∙ delivered_kept board a h (CommandFailed b f) legal refl
 
-  posted-answered : (entries : List Entry) (h after : List Move) (b : ℕ) (f : Frame) (x : Answer) → Fits board entries h (Answered b f x) after → IsLegal board (history h) → (a : ℕ)
-      → HasAtMostOne board entries (history h) a → HasAtMostOne board (Answered b f x ∷ entries) (history after) a
+  posted-answered : (entries : List Entry) (h after : List Move) (b : ℕ) (f : Frame) (x : Answer)
+      → Fits board entries h (Answered b f x) after → IsLegal board (history h) → (a : ℕ)
+      → HasAtMostOne board entries (history h) a
+      → HasAtMostOne board (Answered b f x ∷ entries) (history after) a
   posted-answered entries h after b f x fits legal a one =
       same-posted entries h after (Answered b f x) a
-      (ap (λ ms. delivered_messages board a (history ms)) fits.1 ∙ delivered-answered (history h) b f fits.0 x legal fits.2 a) refl one
+      (ap (λ ms. delivered_messages board a (history ms)) fits.1
+      ∙ delivered-answered (history h) b f fits.0 x legal fits.2 a) refl one
 
-  posted-taken : (entries : List Entry) (h after : List Move) (b : ℕ) (m : Message) → Fits board entries h (Delivered b m) after → (a : ℕ)
-      → HasAtMostOne board entries (history h) a → HasAtMostOne board (Delivered b m ∷ entries) (history after) a
+  posted-taken : (entries : List Entry) (h after : List Move) (b : ℕ) (m : Message)
+      → Fits board entries h (Delivered b m) after → (a : ℕ)
+      → HasAtMostOne board entries (history h) a
+      → HasAtMostOne board (Delivered b m ∷ entries) (history after) a
   posted-taken entries h after b m fits a one = by (decide a b) where
     nothing : after ≡ h
     nothing = fits.1
@@ -209,31 +281,40 @@ module _ (may : Unseen) (board : Board) where
               ∙ sym (append-nil (taken_by b entries ++ option_to_list (if b == b then Some m else None)) ∙ ap (λ c. taken_by b entries ++ option_to_list (if c then Some m else None)) (eq-eqb b b refl)),
         )
     by (inr other) =
-        same-posted entries h after (Delivered b m) a (ap (λ ms. delivered_messages board a (history ms)) nothing) (ap (λ c. if c then Some m else None) (ne_eqb a b other)) one
+        same-posted entries h after (Delivered b m) a
+        (ap (λ ms. delivered_messages board a (history ms)) nothing)
+        (ap (λ c. if c then Some m else None) (ne_eqb a b other)) one
 
-  pub messages-shown : {entries : List Entry} {h : List Move} → Behind may board entries h → IsLegal board (history h) → (a : ℕ) → HasAtMostOne board entries (history h) a
+  pub messages-shown : {entries : List Entry} {h : List Move} → Behind may board entries h
+      → IsLegal board (history h) → (a : ℕ) → HasAtMostOne board entries (history h) a
   messages-shown Behind.nothing legal a = (None, delivered_empty board a)
   messages-shown (Behind.unseen {entries} {moves = h} behind (Move.happens e) is) legal a =
-      posted-more entries (history h) e legal is a (messages-shown behind (legal-before board h (Move.happens e) legal) a)
+      posted-more entries (history h) e legal is a
+      (messages-shown behind (legal-before board h (Move.happens e) legal) a)
   messages-shown (Behind.unseen {entries} {moves = h} behind (Move.executes k e x) is) legal a =
       let before = legal-before board h (Move.executes k e x) legal in
       let one = messages-shown behind before a in
       (one.0, delivered-answered (history h) is.0 is.1 e x before is.3 a ∙ one.1)
-  messages-shown (Behind.unseen {entries} {moves = h} behind (Move.asks k b f) is) legal a = absurd is
+  messages-shown (Behind.unseen {entries} {moves = h} behind (Move.asks k b f) is) legal a =
+      absurd is
   messages-shown (Behind.unseen {entries} {moves = h} behind (Move.frees k) is) legal a = absurd is
   messages-shown (Behind.shown {entries} {moves = h} behind (Answered b f x) after fits) legal a =
       let before = legal-front board entries h after (Answered b f x) fits legal in
       posted-answered entries h after b f x fits before a (messages-shown behind before a)
   messages-shown (Behind.shown {entries} {moves = h} behind (Delivered b m) after fits) legal a =
-      posted-taken entries h after b m fits a (messages-shown behind (legal-front board entries h after (Delivered b m) fits legal) a)
+      posted-taken entries h after b m fits a
+      (messages-shown behind (legal-front board entries h after (Delivered b m) fits legal) a)
   messages-shown (Behind.shown {entries} {moves = h} behind (Asked k b f) after fits) legal a =
-      same-posted entries h after (Asked k b f) a (ap (λ ms. delivered_messages board a (history ms)) fits.1) refl
+      same-posted entries h after (Asked k b f) a
+      (ap (λ ms. delivered_messages board a (history ms)) fits.1) refl
       (messages-shown behind (legal-front board entries h after (Asked k b f) fits legal) a)
   messages-shown (Behind.shown {entries} {moves = h} behind (Replied k b f x) after fits) legal a =
-      same-posted entries h after (Replied k b f x) a (ap (λ ms. delivered_messages board a (history ms)) fits.0) refl
+      same-posted entries h after (Replied k b f x) a
+      (ap (λ ms. delivered_messages board a (history ms)) fits.0) refl
       (messages-shown behind (legal-front board entries h after (Replied k b f x) fits legal) a)
   messages-shown (Behind.shown {entries} {moves = h} behind (GivenUp k) after fits) legal a =
-      same-posted entries h after (GivenUp k) a (ap (λ ms. delivered_messages board a (history ms)) fits) refl
+      same-posted entries h after (GivenUp k) a
+      (ap (λ ms. delivered_messages board a (history ms)) fits) refl
       (messages-shown behind (legal-front board entries h after (GivenUp k) fits legal) a)
 
 -- no agent restarts in it if none may
@@ -247,12 +328,14 @@ no-restart may board entries h (CommandFailed a f) never is = absurd is
 no-restart may board entries h (Restarted a) never is =
     absurd (let same : false ≡ true = sym never ∙ is in cc)
 
-no-restart-answered : (board : Board) (h : List Event) (b : ℕ) (f : Frame) (e : Event) (x : Answer) → IsAnswered board h b f e x → IsNoRestart e
+no-restart-answered : (board : Board) (h : List Event) (b : ℕ) (f : Frame) (e : Event) (x : Answer)
+    → IsAnswered board h b f e x → IsNoRestart e
 no-restart-answered board h b f e x (inl done) = subst IsNoRestart (sym done.0) tt
 no-restart-answered board h b f e x (inr failed) = subst IsNoRestart (sym failed.0) tt
 
 pub no-restarts : (may : Unseen) (board : Board) → may.restarts ≡ false
-    → {entries : List Entry} {h : List Move} → Behind may board entries h → All IsNoRestart (history h)
+    → {entries : List Entry} {h : List Move} → Behind may board entries h
+    → All IsNoRestart (history h)
 no-restarts may board never Behind.nothing = All-nil IsNoRestart
 no-restarts may board never (Behind.unseen {entries} {moves = h} behind (Move.happens e) is) =
     All-push IsNoRestart (history h) e (no-restarts may board never behind)
@@ -260,9 +343,12 @@ no-restarts may board never (Behind.unseen {entries} {moves = h} behind (Move.ha
 no-restarts may board never (Behind.unseen {entries} {moves = h} behind (Move.executes k e x) is) =
     All-push IsNoRestart (history h) e (no-restarts may board never behind)
     (no-restart-answered board (history h) is.0 is.1 e x is.3)
-no-restarts may board never (Behind.unseen {entries} {moves = h} behind (Move.asks k b f) is) = absurd is
-no-restarts may board never (Behind.unseen {entries} {moves = h} behind (Move.frees k) is) = absurd is
-no-restarts may board never (Behind.shown {entries} {moves = h} behind (Answered b f x) after fits) =
+no-restarts may board never (Behind.unseen {entries} {moves = h} behind (Move.asks k b f) is) =
+    absurd is
+no-restarts may board never (Behind.unseen {entries} {moves = h} behind (Move.frees k) is) =
+    absurd is
+no-restarts may board never
+    (Behind.shown {entries} {moves = h} behind (Answered b f x) after fits) =
     subst (λ ms. All IsNoRestart (history ms)) (sym fits.1)
     (All-push IsNoRestart (history h) fits.0 (no-restarts may board never behind)
     (no-restart-answered board (history h) b f fits.0 x fits.2))
@@ -270,7 +356,8 @@ no-restarts may board never (Behind.shown {entries} {moves = h} behind (Delivere
     subst (λ ms. All IsNoRestart (history ms)) (sym fits.1) (no-restarts may board never behind)
 no-restarts may board never (Behind.shown {entries} {moves = h} behind (Asked k b f) after fits) =
     subst (λ ms. All IsNoRestart (history ms)) (sym fits.1) (no-restarts may board never behind)
-no-restarts may board never (Behind.shown {entries} {moves = h} behind (Replied k b f x) after fits) =
+no-restarts may board never
+    (Behind.shown {entries} {moves = h} behind (Replied k b f x) after fits) =
     subst (λ ms. All IsNoRestart (history ms)) (sym fits.0) (no-restarts may board never behind)
 no-restarts may board never (Behind.shown {entries} {moves = h} behind (GivenUp k) after fits) =
     subst (λ ms. All IsNoRestart (history ms)) (sym fits) (no-restarts may board never behind)

@@ -1,4 +1,5 @@
--- The histories that may be behind a record. The entries of a record, and the moves behind them, stand newest first here.
+-- The histories that may be behind a record. The entries of a record, and the moves behind them,
+-- stand newest first here.
 use Rattle.std.specs.Prelude.{◌≡◌, ◌⊎◌, ⊤, ℕ, ◌<◌, Bool, true, false, List, [], ◌∷◌, ◌++◌, length, reverse, slice_get, Option, Some, None as Nothing}
 use Rattle.std.specs.Option.{option_map_or, option_to_list}
 use Rattle.scmi_plan.specs.Agent.{IsAgent}
@@ -56,44 +57,60 @@ IsUnseenEvent may board entries h (Command a frame) = ⊥
 IsUnseenEvent may board entries h (CommandFailed a frame) = ⊥
 IsUnseenEvent may board entries h (Restarted a) = may.restarts ≡ true
 
--- after a history this event is a command of agent a with the answer that it gets there, or one whose change the hardware refused, with the answer to that
+-- after a history this event is a command of agent a with the answer that it gets there, or one
+-- whose change the hardware refused, with the answer to that
 abbrev pub IsAnswered : Board → List Event → ℕ → Frame → Event → Answer → Type 0
 IsAnswered board h a frame event answer =
     ((event ≡ Command a frame) × (answer ≡ answer_to board a frame h))
     ⊎ ((event ≡ CommandFailed a frame) × (answer ≡ failed_answer frame))
 
--- after moves that are behind these entries this one may come that no entry shows by itself: an unseen event, or a command is executed that is outstanding and was not executed yet
+-- after moves that are behind these entries this one may come that no entry shows by itself: an
+-- unseen event, or a command is executed that is outstanding and was not executed yet
 abbrev pub IsUnseen : Unseen → Board → List Entry → List Move → Move → Type 0
-IsUnseen may board entries moves (Move.happens event) = IsUnseenEvent may board entries (history moves) event
+IsUnseen may board entries moves (Move.happens event) =
+    IsUnseenEvent may board entries (history moves) event
 IsUnseen may board entries moves (Move.executes k event answer) =
-    (a : ℕ) × (frame : Frame) × (outstanding_at k moves ≡ Some (outstanding a frame Nothing)) × IsAnswered board (history moves) a frame event answer
+    (a : ℕ) × (frame : Frame) × (outstanding_at k moves ≡ Some (outstanding a frame Nothing))
+    × IsAnswered board (history moves) a frame event answer
 IsUnseen may board entries moves (Move.asks k a frame) = ⊥
 IsUnseen may board entries moves (Move.frees k) = ⊥
 
--- after moves that are behind these entries, these are behind one more. A command with its answer is executed here. A message that an agent takes is the one that was posted to it and not yet seen.
--- A command that is answered later is outstanding from here on, at a place that was free; its answer is the one that it got when it was executed, and the place is free again; and if no answer of it comes, the place is free at some time
+-- after moves that are behind these entries, these are behind one more. A command with its answer
+-- is executed here. A message that an agent takes is the one that was posted to it and not yet
+-- seen.
+-- A command that is answered later is outstanding from here on, at a place that was free; its
+-- answer is the one that it got when it was executed, and the place is free again; and if no answer
+-- of it comes, the place is free at some time
 abbrev pub Fits : Board → List Entry → List Move → Entry → List Move → Type 0
 Fits board entries moves (entry.Answered a frame answer) after =
-    (event : Event) × (after ≡ Move.happens event ∷ moves) × IsAnswered board (history moves) a frame event answer
+    (event : Event) × (after ≡ Move.happens event ∷ moves)
+    × IsAnswered board (history moves) a frame event answer
 Fits board entries moves (entry.Delivered a message) after =
-    IsAgent (length board.agents) a × (after ≡ moves) × (delivered_messages board a (history moves) ≡ taken_by a entries ++ message ∷ [])
+    IsAgent (length board.agents) a × (after ≡ moves)
+    × (delivered_messages board a (history moves) ≡ taken_by a entries ++ message ∷ [])
 Fits board entries moves (entry.Asked k a frame) after =
-    IsAgent (length board.agents) a × (after ≡ Move.asks k a frame ∷ moves) × (k < OUTSTANDING) × (outstanding_at k moves ≡ Nothing)
+    IsAgent (length board.agents) a × (after ≡ Move.asks k a frame ∷ moves) × (k < OUTSTANDING)
+    × (outstanding_at k moves ≡ Nothing)
 Fits board entries moves (entry.Replied k a frame answer) after =
-    (after ≡ Move.frees k ∷ moves) × (outstanding_at k moves ≡ Some (outstanding a frame (Some answer)))
+    (after ≡ Move.frees k ∷ moves)
+    × (outstanding_at k moves ≡ Some (outstanding a frame (Some answer)))
 Fits board entries moves (entry.GivenUp k) after = after ≡ Move.frees k ∷ moves
 
--- moves are behind these entries, newest first: they show what they show of them, and unseen moves stand anywhere
+-- moves are behind these entries, newest first: they show what they show of them, and unseen moves
+-- stand anywhere
 pub data Behind (may : Unseen) (board : Board) : List Entry → List Move → Type 0 where
   nothing : Behind may board [] []
-  unseen : {entries : List Entry} {moves : List Move} → Behind may board entries moves → (move : Move) → IsUnseen may board entries moves move
+  unseen : {entries : List Entry} {moves : List Move} → Behind may board entries moves
+      → (move : Move) → IsUnseen may board entries moves move
       → Behind may board entries (move ∷ moves)
-  shown : {entries : List Entry} {moves : List Move} → Behind may board entries moves → (entry : Entry) (after : List Move) → Fits board entries moves entry after
+  shown : {entries : List Entry} {moves : List Move} → Behind may board entries moves
+      → (entry : Entry) (after : List Move) → Fits board entries moves entry after
       → Behind may board (entry ∷ entries) after
 
 -- a legal history of a board is behind these entries, newest first
 abbrev pub HasLegalHistory : Unseen → Board → List Entry → Type 0
-HasLegalHistory may board entries = (moves : List Move) × IsLegal board (history moves) × Behind may board entries moves
+HasLegalHistory may board entries =
+    (moves : List Move) × IsLegal board (history moves) × Behind may board entries moves
 
 -- a record is right: a legal history of the board is behind it
 abbrev pub IsRight : Unseen → Board → List Entry → Type 0

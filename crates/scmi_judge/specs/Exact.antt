@@ -22,7 +22,8 @@ pub record HaveGrown (may : Unseen) (g : Guess) (guesses new : List Guess) : Typ
 -- what a guess moves on to by a step is among some guesses
 abbrev pub IsTried : Unseen → Guess → Step → List Guess → Type 0
 IsTried may g step guesses =
-    (board : Board) (entries : List Entry) (moves : List Move) (move : Move) → IsOf step move → IsGuess may board g entries moves → CanCome may board entries moves move
+    (board : Board) (entries : List Entry) (moves : List Move) (move : Move) → IsOf step move
+    → IsGuess may board g entries moves → CanCome may board entries moves move
     → IsAmong may board entries (move ∷ moves) guesses
 
 -- the same of a step of each agent, or each place, with a number above this one
@@ -36,34 +37,41 @@ AreTriedActs may g guesses = (act : Act) → IsTriedAbove may g act 0 guesses
 -- the same of each move
 abbrev pub IsTriedWhole : Unseen → Guess → List Guess → Type 0
 IsTriedWhole may g guesses =
-    (board : Board) (entries : List Entry) (moves : List Move) (move : Move) → IsGuess may board g entries moves → CanCome may board entries moves move
+    (board : Board) (entries : List Entry) (moves : List Move) (move : Move)
+    → IsGuess may board g entries moves → CanCome may board entries moves move
     → IsAmong may board entries (move ∷ moves) guesses
 
 -- what these guesses move on to is among them or among others
 abbrev pub AreTried : Unseen → List Guess → List Guess → Type 0
 AreTried may guesses others =
-    (board : Board) (entries : List Entry) (moves : List Move) (move : Move) → IsAmong may board entries moves guesses → CanCome may board entries moves move
-    → IsAmong may board entries (move ∷ moves) guesses ⊎ IsAmong may board entries (move ∷ moves) others
+    (board : Board) (entries : List Entry) (moves : List Move) (move : Move)
+    → IsAmong may board entries moves guesses → CanCome may board entries moves move
+    → IsAmong may board entries (move ∷ moves) guesses
+    ⊎ IsAmong may board entries (move ∷ moves) others
 
 -- each unseen move that may come after one of these guesses leads to one of them
 abbrev pub AreClosed : Unseen → List Guess → Type 0
 AreClosed may guesses =
-    (board : Board) (entries : List Entry) (moves : List Move) (move : Move) → IsAmong may board entries moves guesses → CanCome may board entries moves move
+    (board : Board) (entries : List Entry) (moves : List Move) (move : Move)
+    → IsAmong may board entries moves guesses → CanCome may board entries moves move
     → IsAmong may board entries (move ∷ moves) guesses
 
 -- moves are behind these entries, and none that is unseen comes after the last of them
 abbrev pub EndsShown : Unseen → Board → List Entry → List Move → Type 0
 EndsShown may board [] moves = moves ≡ []
-EndsShown may board (entry ∷ entries) after = (moves : List Move) × Behind may board entries moves × Fits board entries moves entry after
+EndsShown may board (entry ∷ entries) after =
+    (moves : List Move) × Behind may board entries moves × Fits board entries moves entry after
 
 -- these guesses are all the platforms that may be behind these entries, at the last of them
 pub record AreExact (may : Unseen) (board : Board) (entries : List Entry) (guesses : List Guess) : Type 0 where
   pub real : All (IsReal may board entries) guesses
-  pub all : (moves : List Move) → IsLegal board (history moves) → EndsShown may board entries moves → IsAmong may board entries moves guesses
+  pub all : (moves : List Move) → IsLegal board (history moves) → EndsShown may board entries moves
+      → IsAmong may board entries moves guesses
 
 -- these guesses have all that some have, and are as real
 pub record HaveKept (may : Unseen) (guesses new : List Guess) : Type 0 where
-  pub kept : (board : Board) (entries : List Entry) (moves : List Move) → IsAmong may board entries moves guesses → IsAmong may board entries moves new
+  pub kept : (board : Board) (entries : List Entry) (moves : List Move)
+      → IsAmong may board entries moves guesses → IsAmong may board entries moves new
   pub real : (board : Board) (entries : List Entry) → All (IsReal may board entries) guesses → All (IsReal may board entries) new
 
 -- these guesses are platforms of a board
@@ -73,16 +81,20 @@ IsOfBoard board guesses = All (λ (g : Guess). g.platform.board ≡ board) guess
 -- all that some guesses have is among these or among others
 abbrev pub IsKept : Unseen → List Guess → List Guess → List Guess → Type 0
 IsKept may guesses all others =
-    (board : Board) (entries : List Entry) (moves : List Move) → IsAmong may board entries moves guesses → IsAmong may board entries moves all ⊎ IsAmong may board entries moves others
+    (board : Board) (entries : List Entry) (moves : List Move)
+    → IsAmong may board entries moves guesses
+    → IsAmong may board entries moves all ⊎ IsAmong may board entries moves others
 
 -- these guesses are the others after an entry: all those that give it
 pub record HaveGiven (may : Unseen) (guesses : List Guess) (entry : Entry) (left : List Guess) : Type 0 where
-  pub each : (board : Board) (entries : List Entry) (moves after : List Move) → IsAmong may board entries moves guesses → CanShow board entries moves entry after
+  pub each : (board : Board) (entries : List Entry) (moves after : List Move)
+      → IsAmong may board entries moves guesses → CanShow board entries moves entry after
       → IsAmong may board (entry ∷ entries) after left
   pub real : (board : Board) (entries : List Entry) → All (IsReal may board entries) guesses → All (IsReal may board (entry ∷ entries)) left
 
 -- the same, of those that have been tried
 pub record AreGiven (may : Unseen) (guesses : List Guess) (entry : Entry) (left untried : List Guess) : Type 0 where
-  pub each : (board : Board) (entries : List Entry) (moves after : List Move) → IsAmong may board entries moves guesses → CanShow board entries moves entry after
+  pub each : (board : Board) (entries : List Entry) (moves after : List Move)
+      → IsAmong may board entries moves guesses → CanShow board entries moves entry after
       → IsAmong may board (entry ∷ entries) after left ⊎ IsAmong may board entries moves untried
   pub real : (board : Board) (entries : List Entry) → All (IsReal may board entries) guesses → All (IsReal may board (entry ∷ entries)) left × All (IsReal may board entries) untried

@@ -26,11 +26,14 @@ abbrev pub command_at : Guess → ℕ → Option Outstanding
 command_at g k = get_or g.outstanding k None
 
 -- a guess is the platform of a board as these moves leave it, which are behind these entries
-pub record IsGuess (may : Unseen) (board : Board) (g : Guess) (entries : List Entry) (moves : List Move) : Type 0 where
+pub record IsGuess (may : Unseen) (board : Board) (g : Guess) (entries : List Entry)
+    (moves : List Move) : Type 0 where
   pub of_board : g.platform.board ≡ board
   pub behind : Behind may board entries moves
   pub stands : StandsAfter g.platform (history moves)
-  pub channels : (a : ℕ) → IsAgent (length board.agents) a → delivered_messages board a (history moves) ≡ taken_by a entries ++ option_to_list (posted_to g a)
+  pub channels : (a : ℕ) → IsAgent (length board.agents) a
+      → delivered_messages board a (history moves) ≡ taken_by a entries
+      ++ option_to_list (posted_to g a)
   pub commands : (k : ℕ) → command_at g k ≡ outstanding_at k moves
   pub places : length g.outstanding ≡ OUTSTANDING
 
@@ -42,39 +45,52 @@ CanMove board moves (Move.asks k a frame) = ⊤
 CanMove board moves (Move.frees k) = ⊤
 
 -- an unseen move may come after those that are behind these entries
-pub record CanCome (may : Unseen) (board : Board) (entries : List Entry) (moves : List Move) (move : Move) : Type 0 where
+pub record CanCome (may : Unseen) (board : Board) (entries : List Entry) (moves : List Move)
+    (move : Move) : Type 0 where
   pub unseen : IsUnseen may board entries moves move
   pub follows : CanMove board moves move
 
 -- a step moves a guess on, whatever it is behind, by each of its moves that may come there
 pub record GoesOn (may : Unseen) (g : Guess) (step : Step) (new : Guess) : Type 0 where
-  pub some : (board : Board) (entries : List Entry) (moves : List Move) → IsGuess may board g entries moves → (move : Move) × IsGuess may board new entries (move ∷ moves)
-  pub each : (board : Board) (entries : List Entry) (moves : List Move) (move : Move) → IsOf step move → IsGuess may board g entries moves → CanCome may board entries moves move
+  pub some : (board : Board) (entries : List Entry) (moves : List Move)
+      → IsGuess may board g entries moves
+      → (move : Move) × IsGuess may board new entries (move ∷ moves)
+  pub each : (board : Board) (entries : List Entry) (moves : List Move) (move : Move)
+      → IsOf step move → IsGuess may board g entries moves → CanCome may board entries moves move
       → IsGuess may board new entries (move ∷ moves)
 
 -- no move of a step can come after a guess, whatever it is behind
 abbrev pub CannotCome : Unseen → Guess → Step → Type 0
 CannotCome may g step =
-    (board : Board) (entries : List Entry) (moves : List Move) (move : Move) → IsOf step move → IsGuess may board g entries moves → ¬ (CanCome may board entries moves move)
+    (board : Board) (entries : List Entry) (moves : List Move) (move : Move) → IsOf step move
+    → IsGuess may board g entries moves → ¬ (CanCome may board entries moves move)
 
 -- these moves may be behind an entry after those that are behind the entries before it
-pub record CanShow (board : Board) (entries : List Entry) (moves : List Move) (entry : Entry) (after : List Move) : Type 0 where
+pub record CanShow (board : Board) (entries : List Entry) (moves : List Move) (entry : Entry)
+    (after : List Move) : Type 0 where
   pub fits : Fits board entries moves entry after
   pub legal : IsLegal board (history after)
 
 -- a guess gives an entry, whatever it is behind, and then it is the new one
 pub record Gives (may : Unseen) (g : Guess) (entry : Entry) (new : Guess) : Type 0 where
-  pub some : (board : Board) (entries : List Entry) (moves : List Move) → IsGuess may board g entries moves → (after : List Move) × CanShow board entries moves entry after
-  pub each : (board : Board) (entries : List Entry) (moves after : List Move) → IsGuess may board g entries moves → CanShow board entries moves entry after
+  pub some : (board : Board) (entries : List Entry) (moves : List Move)
+      → IsGuess may board g entries moves
+      → (after : List Move) × CanShow board entries moves entry after
+  pub each : (board : Board) (entries : List Entry) (moves after : List Move)
+      → IsGuess may board g entries moves → CanShow board entries moves entry after
       → IsGuess may board new (entry ∷ entries) after
 
 -- a guess does not give an entry, whatever it is behind
 abbrev pub GivesNot : Unseen → Guess → Entry → Type 0
-GivesNot may g entry = (board : Board) (entries : List Entry) (moves after : List Move) → IsGuess may board g entries moves → ¬ (CanShow board entries moves entry after)
+GivesNot may g entry =
+    (board : Board) (entries : List Entry) (moves after : List Move)
+    → IsGuess may board g entries moves → ¬ (CanShow board entries moves entry after)
 
 -- whatever one guess is, the other is as well
 abbrev pub IsSameGuess : Unseen → Guess → Guess → Type 0
-IsSameGuess may g new = (board : Board) (entries : List Entry) (moves : List Move) → IsGuess may board g entries moves → IsGuess may board new entries moves
+IsSameGuess may g new =
+    (board : Board) (entries : List Entry) (moves : List Move) → IsGuess may board g entries moves
+    → IsGuess may board new entries moves
 
 -- a guess is the platform of some history behind these entries
 abbrev pub IsReal : Unseen → Board → List Entry → Guess → Type 0
@@ -82,4 +98,5 @@ IsReal may board entries g = (moves : List Move) × IsGuess may board g entries 
 
 -- one of these guesses is the platform of these moves behind these entries
 abbrev pub IsAmong : Unseen → Board → List Entry → List Move → List Guess → Type 0
-IsAmong may board entries moves guesses = (k : ℕ) × (g : Guess) × (slice_get guesses k ≡ Some g) × IsGuess may board g entries moves
+IsAmong may board entries moves guesses =
+    (k : ℕ) × (g : Guess) × (slice_get guesses k ≡ Some g) × IsGuess may board g entries moves

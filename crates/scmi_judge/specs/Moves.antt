@@ -1,11 +1,13 @@
--- What happens behind a record: the events of a history, and when the commands are executed that are answered later. Moves stand newest first here.
+-- What happens behind a record: the events of a history, and when the commands are executed that
+-- are answered later. Moves stand newest first here.
 use Rattle.std.specs.Prelude.{ℕ, ◌==◌, if◌then◌else◌, List, [], ◌∷◌, ◌++◌, Option, Some, None, option_map}
 use Rattle.scmi_codec.specs.declared.frame.Frame.{Frame}
 use Rattle.scmi_codec.specs.declared.frame.Answer.{Answer}
 use Rattle.scmi_core.specs.declared.event.Event.{Event}
 use Rattle.scmi_judge.specs.declared.outstanding.Outstanding.{Outstanding}
 
--- an event happens; or a command of an agent is asked, and is outstanding at a place; or the command at a place is executed, by an event and with an answer; or a place is free again
+-- an event happens; or a command of an agent is asked, and is outstanding at a place; or the
+-- command at a place is executed, by an event and with an answer; or a place is free again
 pub data Move : Type 0 where
   happens : Event → Move
   asks : ℕ → ℕ → Frame → Move
@@ -32,6 +34,8 @@ executed answer command = outstanding command.agent command.frame (Some answer)
 abbrev pub outstanding_at : ℕ → List Move → Option Outstanding
 outstanding_at k [] = None
 outstanding_at k (Move.happens event ∷ moves) = outstanding_at k moves
-outstanding_at k (Move.asks j a frame ∷ moves) = if k == j then Some (outstanding a frame None) else outstanding_at k moves
-outstanding_at k (Move.executes j event answer ∷ moves) = if k == j then option_map (executed answer) (outstanding_at k moves) else outstanding_at k moves
+outstanding_at k (Move.asks j a frame ∷ moves) =
+    if k == j then Some (outstanding a frame None) else outstanding_at k moves
+outstanding_at k (Move.executes j event answer ∷ moves) =
+    if k == j then option_map (executed answer) (outstanding_at k moves) else outstanding_at k moves
 outstanding_at k (Move.frees j ∷ moves) = if k == j then None else outstanding_at k moves

@@ -19,7 +19,8 @@ IsOf (Restart a) move = move ≡ Move.happens (Restarted a)
 IsOf (Execute k) move = (a : ℕ) × (frame : Frame) × (answer : Answer) × (move ≡ Move.executes k (Command a frame) answer)
 IsOf (Fail k) move = (a : ℕ) × (frame : Frame) × (answer : Answer) × (move ≡ Move.executes k (CommandFailed a frame) answer)
 
--- the step of what may happen of each agent, or of the command at each place; places are counted from 1 here
+-- the step of what may happen to each agent, or to the command at each place; places are counted
+-- from 1 here
 abbrev pub step_of : Act → ℕ → Step
 step_of act.Post n = Post n
 step_of act.Restart n = Restart n
