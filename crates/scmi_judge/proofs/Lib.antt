@@ -7,4 +7,5 @@ pub mod Dues
 pub mod Exactness
 pub mod Executing
 pub mod Guessing
+pub mod Numbers
 pub mod Showing
