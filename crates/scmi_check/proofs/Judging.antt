@@ -9,11 +9,13 @@ use Rattle.scmi_core.proofs.Laws.{empty_is_legal}
 use Rattle.scmi_judge.specs.Behind.{Behind, HasLegalHistory, IsRight}
 use Rattle.scmi_judge.specs.Due.{IsDue, in_place}
 use Rattle.scmi_judge.specs.Judging.{Judging, Knows}
+use Rattle.scmi_judge.specs.Moves.{Move, history}
+use Rattle.scmi_core.specs.Legal.{IsLegal}
 use Rattle.scmi_judge.specs.declared.entry.Entry.{Entry}
 use Rattle.scmi_judge.specs.declared.unseen.Unseen.{Unseen}
 use Rattle.scmi_judge.specs.declared.verdict.Verdict.{Verdict}
 use Rattle.scmi_judge.specs.declared.verdict.Verdict.TheVariants as verdict
-use Rattle.scmi_judge.proofs.Exactness.{front-right}
+use Rattle.scmi_judge.proofs.Among.{legal-before, legal-front}
 use Rattle.scmi_judge.proofs.Guessing.{decide}
 use Rattle.scmi_check.specs.Finding.{Fits, finding_of, judged_as}
 use Rattle.scmi_check.specs.Judged.{AreJudged, DoesFit, behind, meant, placed_of}
@@ -22,6 +24,16 @@ use Rattle.scmi_check.specs.declared.own_rule.OwnRule.{OwnRule}
 use Rattle.scmi_check.specs.declared.judged.Judged.{Judged}
 use Rattle.scmi_check.specs.declared.placed.Placed.{Placed}
 use Rattle.scmi_check.proofs.Findings.{as-it-is, as-meant, fits-or-not, other-found, own-due, same-or-not}
+
+-- what has a history with one more entry has one
+front-behind : (may : Unseen) (board : Board) {entry : Entry} {entries : List Entry} {moves : List Move} → Behind may board (entry ∷ entries) moves → IsLegal board (history moves)
+    → HasLegalHistory may board entries
+front-behind may board (Behind.unseen {moves = before} behind move unseen) legal = front-behind may board behind (legal-before board before move legal)
+front-behind may board (Behind.shown {entries = shown} {moves = before} behind entry after fits) legal =
+    (before, legal-front board shown before after entry fits legal, behind)
+
+front-right : (may : Unseen) (board : Board) (entry : Entry) (entries : List Entry) → HasLegalHistory may board (entry ∷ entries) → HasLegalHistory may board entries
+front-right may board entry entries has = front-behind may board has.2 has.1
 
 -- an entry that differs by a rule of the profile's own, judged again with the answer that was due
 module _ (may : Unseen) (board : Board) (mid new : Judging) (entries : List Entry) (entry given : Entry) (v again : Verdict) (rule : OwnRule)

@@ -12,10 +12,11 @@ use Rattle.scmi_codec.specs.declared.frame.Frame.TheVariants.{Good}
 use Rattle.scmi_codec.specs.declared.message.Message.{Message}
 use Rattle.scmi_plan.specs.declared.limits.TheConstants.{AGENTS}
 use Rattle.scmi_judge.specs.declared.entry.Entry.{Entry}
-use Rattle.scmi_judge.specs.declared.entry.Entry.TheVariants.{Answered, Delivered}
+use Rattle.scmi_judge.specs.declared.entry.Entry.TheVariants.{Answered, Asked, Delivered, GivenUp, Replied}
 use Rattle.scmi_text.specs.declared.step.Call.{Call}
+use Rattle.scmi_check.specs.Asking.{AskingView, is_free, is_to_ask, place_of_line, with_all_asked, with_all_given_up, with_asked, with_free, with_given_up, with_one, with_place, without_answer}
 use Rattle.scmi_check.specs.LeftOut.{LeftView, is_judged, with_left, with_no_answer, with_no_answers, with_note, with_notes, with_skipped, frame_protocol}
-use Rattle.scmi_check.specs.RecordText.{Shows, command_taken, entry_protocol, finished, is_by, is_early, none_early, onto, taken_with, token_free, token_taken, with_answer, with_called, with_entry, with_entry_of, with_judged, with_line, with_lost, with_posted, with_response, with_shown, with_trace, with_traced, with_unmatched}
+use Rattle.scmi_check.specs.RecordText.{Shows, command_taken, entry_protocol, finished, is_by, is_early, answered_at, asking_of, none_early, onto, ready, taken_with, token_free, token_taken, with_answer, with_answered, with_asking, with_called, with_entry, with_entry_of, with_judged, with_line, with_lost, with_posted, with_response, with_shown, with_trace, with_traced, with_unmatched}
 use Rattle.scmi_check.specs.Shown.{shown_at}
 use Rattle.scmi_check.specs.declared.lost.Lost.{Lost as LostEvents}
 use Rattle.scmi_check.specs.declared.note.Note.{Note}
@@ -59,11 +60,63 @@ module _ (placed : List Placed) (notes : List Note) where
   abbrev with-left-out : Shows → LeftView → Shows
   with-left-out shows left = record shows { entries = placed ++ shows.entries; left = left }
 
+  -- the same of the entries alone
+  abbrev behind : AskingView → AskingView
+  behind asking = record { entries = placed ++ asking.entries; asked = asking.asked }
+
+  one-onto : (asking : AskingView) (line : ℕ) (entry : Entry) → with_one (behind asking) line entry ≡ behind (with_one asking line entry)
+  one-onto asking line entry = ap (λ (es : List Placed). record { entries = es; asked = asking.asked })
+      (append_assoc placed asking.entries (record { line = line; entry = entry } ∷ []))
+
+  place-onto : (asking : AskingView) (command : Waiting) (place : Option ℕ) → with_place (behind asking) command place ≡ behind (with_place asking command place)
+  place-onto asking command None = refl
+  place-onto asking command (Some k) = ap (λ (es : List Placed). record { entries = es; asked = (with_place asking command (Some k)).asked })
+      (append_assoc placed asking.entries (record { line = command.line; entry = Asked k command.agent command.frame } ∷ []))
+
+  asked-onto : (judged : List ℕ) (asking : AskingView) (command : Waiting) → with_asked judged (behind asking) command ≡ behind (with_asked judged asking command)
+  unfolding with_asked
+  asked-onto judged asking command = by (is_to_ask judged asking command) where
+    by : (b : Bool) → (if b then with_place (behind asking) command (position is_free asking.asked) else behind asking)
+        ≡ behind (if b then with_place asking command (position is_free asking.asked) else asking)
+    by true = place-onto asking command (position is_free asking.asked)
+    by false = refl
+
+  all-asked-onto : (judged : List ℕ) (asking : AskingView) (commands : List Waiting) → with_all_asked judged (behind asking) commands ≡ behind (with_all_asked judged asking commands)
+  all-asked-onto judged asking [] = refl
+  all-asked-onto judged asking (command ∷ commands) =
+      ap (λ (a : AskingView). with_all_asked judged a commands) (asked-onto judged asking command)
+      ∙ all-asked-onto judged (with_asked judged asking command) commands
+
+  without-onto : (asking : AskingView) (line : ℕ) (place : Option ℕ) → without_answer (behind asking) line place ≡ behind (without_answer asking line place)
+  without-onto asking line None = refl
+  without-onto asking line (Some k) = ap (λ (a : AskingView). with_free a k) (one-onto asking line (GivenUp k))
+
+  given-up-onto : (judged : List ℕ) (asking : AskingView) (command : Waiting) → with_given_up judged (behind asking) command ≡ behind (with_given_up judged asking command)
+  unfolding with_given_up
+  given-up-onto judged asking command =
+      ap (λ (a : AskingView). without_answer a command.line (place_of_line a command.line)) (asked-onto judged asking command)
+      ∙ without-onto (with_asked judged asking command) command.line (place_of_line (with_asked judged asking command) command.line)
+
+  all-given-up-onto : (judged : List ℕ) (asking : AskingView) (commands : List Waiting)
+      → with_all_given_up judged (behind asking) commands ≡ behind (with_all_given_up judged asking commands)
+  all-given-up-onto judged asking [] = refl
+  all-given-up-onto judged asking (command ∷ commands) =
+      ap (λ (a : AskingView). with_all_given_up judged a commands) (given-up-onto judged asking command)
+      ∙ all-given-up-onto judged (with_given_up judged asking command) commands
+
+  ready-onto : (shows : Shows) → ready (at shows) ≡ behind (ready shows)
+  ready-onto shows =
+      ap (λ (a : AskingView). with_all_asked shows.judged (with_all_asked shows.judged a shows.waiting) shows.traced)
+      (all-given-up-onto shows.judged (asking_of shows) shows.given_up)
+      ∙ ap (λ (a : AskingView). with_all_asked shows.judged a shows.traced)
+      (all-asked-onto shows.judged (with_all_given_up shows.judged (asking_of shows) shows.given_up) shows.waiting)
+      ∙ all-asked-onto shows.judged (with_all_asked shows.judged (with_all_given_up shows.judged (asking_of shows) shows.given_up) shows.waiting) shows.traced
+
   judged-onto : (shows : Shows) (line : ℕ) (entry : Entry)
       → with_judged (at shows) line entry ≡ at (with_judged shows line entry)
-  judged-onto shows line entry = ap (λ (es : List Placed). record shows
-      { entries = es; left = later shows.left })
-      (append_assoc placed shows.entries (record { line = line; entry = entry } ∷ []))
+  judged-onto shows line entry =
+      ap (λ (a : AskingView). with_asking (record (at shows) { given_up = [] }) a)
+      (ap (λ (a : AskingView). with_one a line entry) (ready-onto shows) ∙ one-onto (ready shows) line entry)
 
   entry-of-onto : (protocol : Option ℕ) (shows : Shows) (line : ℕ) (entry : Entry)
       → with_entry_of protocol (at shows) line entry ≡ at (with_entry_of protocol shows line entry)
@@ -79,6 +132,16 @@ module _ (placed : List Placed) (notes : List Note) where
   entry-onto : (shows : Shows) (line : ℕ) (entry : Entry)
       → with_entry (at shows) line entry ≡ at (with_entry shows line entry)
   entry-onto shows line entry = entry-of-onto (entry_protocol entry) shows line entry
+
+  answered-at-onto : (place : Option ℕ) (shows : Shows) (line : ℕ) (command : Waiting) (answer : Answer)
+      → answered_at place (at shows) line command answer ≡ at (answered_at place shows line command answer)
+  answered-at-onto None shows line command answer = entry-onto shows line (Answered command.agent command.frame answer)
+  answered-at-onto (Some k) shows line command answer =
+      ap (λ (s : Shows). with_asking s (with_free (asking_of s) k)) (entry-onto shows line (Replied k command.agent command.frame answer))
+
+  answered-onto : (shows : Shows) (line : ℕ) (command : Waiting) (answer : Answer)
+      → with_answered (at shows) line command answer ≡ at (with_answered shows line command answer)
+  answered-onto shows line command answer = answered-at-onto (place_of_line (asking_of shows) command.line) shows line command answer
 
   unmatched-onto : (shows : Shows) (line protocol : ℕ)
       → with_unmatched (at shows) line protocol ≡ at (with_unmatched shows line protocol)
@@ -144,14 +207,11 @@ module _ (placed : List Placed) (notes : List Note) where
       → with_answer (at shows) line a answer ≡ option_map at (with_answer shows line a answer)
   unfolding with_answer
   answer-onto shows line a answer = by (command_taken shows.waiting a) where
-    by : (taken : Option (Frame × List Waiting))
-        → (taken >>= λ t. Some (with_entry (record (at shows) { waiting = t.1 }) line
-        (Answered a t.0 answer)))
-        ≡ option_map at (taken >>= λ t. Some (with_entry (record shows { waiting = t.1 }) line
-        (Answered a t.0 answer)))
+    by : (taken : Option (Waiting × List Waiting))
+        → (taken >>= λ t. Some (with_answered (record (at shows) { waiting = t.1 }) line t.0 answer))
+        ≡ option_map at (taken >>= λ t. Some (with_answered (record shows { waiting = t.1 }) line t.0 answer))
     by None = refl
-    by (Some t) = ap (λ (s : Shows). Some s) (entry-onto (record shows { waiting = t.1 }) line
-        (Answered a t.0 answer))
+    by (Some t) = ap (λ (s : Shows). Some s) (answered-onto (record shows { waiting = t.1 }) line t.0 answer)
 
   free-onto : (shows : Shows) (a token : ℕ) → token_free (at shows) a token ≡ at
       (token_free shows a token)
@@ -159,16 +219,22 @@ module _ (placed : List Placed) (notes : List Note) where
     by : (taken : Option (Waiting × List Waiting))
         → elim taken [
           | None ↦ at shows
-          | Some t ↦ record
-              (at shows) { traced = t.1; left = with_no_answer shows.judged (later shows.left) t.0 }
+          | Some t ↦ record (at shows) {
+            traced = t.1;
+            given_up = shows.given_up ++ t.0 ∷ [];
+            left = with_no_answer shows.judged (later shows.left) t.0;
+          }
         ]
         ≡ at (elim taken [
           | None ↦ shows
-          | Some t ↦ record shows
-              { traced = t.1; left = with_no_answer shows.judged shows.left t.0 }
+          | Some t ↦ record shows {
+            traced = t.1;
+            given_up = shows.given_up ++ t.0 ∷ [];
+            left = with_no_answer shows.judged shows.left t.0;
+          }
         ])
     by None = refl
-    by (Some t) = ap (λ (l : LeftView). with-left-out (record shows { traced = t.1 }) l)
+    by (Some t) = ap (λ (l : LeftView). with-left-out (record shows { traced = t.1; given_up = shows.given_up ++ t.0 ∷ [] }) l)
         (left-onto shows.judged shows.left (frame_protocol t.0.frame) _)
 
   traced-onto : (shows : Shows) (line a : ℕ) (message : Message)
@@ -197,27 +263,24 @@ module _ (placed : List Placed) (notes : List Note) where
       | None ↦ with_unmatched (record (at shows)
           { early = Some (record { agent = a; token = message.header.token }) }) line
           message.header.protocol
-      | Some t ↦ with_entry (record (at shows) { traced = t.1 }) line
-          (Answered a t.0.frame (Reply message))
+      | Some t ↦ with_answered (record (at shows) { traced = t.1 }) line t.0 (Reply message)
     ] ≡ at (elim taken [
       | None ↦ with_unmatched (record shows {
         early =
             Some (record { agent = a; token = message.header.token });
       }) line message.header.protocol
-      | Some t ↦ with_entry (record shows { traced = t.1 }) line
-          (Answered a t.0.frame (Reply message))
+      | Some t ↦ with_answered (record shows { traced = t.1 }) line t.0 (Reply message)
     ])
     by None = unmatched-onto (record shows {
       early =
           Some (record { agent = a; token = message.header.token });
     }) line message.header.protocol
-    by (Some t) = entry-onto (record shows { traced = t.1 }) line
-        (Answered a t.0.frame (Reply message))
+    by (Some t) = answered-onto (record shows { traced = t.1 }) line t.0 (Reply message)
 
   lost-onto : (shows : Shows) (line : ℕ) (lost : LostEvents)
       → with_lost (at shows) line lost ≡ at (with_lost shows line lost)
   lost-onto shows line lost =
-      ap (λ (l : LeftView). with-left-out (record shows { traced = []; early = None }) l)
+      ap (λ (l : LeftView). with-left-out (record shows { traced = []; given_up = shows.given_up ++ shows.traced; early = None }) l)
       (ap (λ (l : LeftView). with_note l (record { line = line; kind = Lost lost }))
       (no-answers-onto shows.judged shows.left shows.traced)
       ∙ note-onto (with_no_answers shows.judged shows.left shows.traced)

@@ -9,12 +9,13 @@ use Rattle.scmi_codec.specs.declared.frame.Answer.TheVariants.{Reply, Released, 
 use Rattle.scmi_codec.specs.declared.frame.Frame.{Frame}
 use Rattle.scmi_codec.specs.declared.frame.Frame.TheVariants.{Good, Malformed}
 use Rattle.scmi_judge.specs.declared.entry.Entry.{Entry}
-use Rattle.scmi_judge.specs.declared.entry.Entry.TheVariants.{Answered, Delivered}
+use Rattle.scmi_judge.specs.declared.entry.Entry.TheVariants.{Answered, Asked, Delivered, Replied}
 use Rattle.scmi_text.specs.Fields.{first_agent, first_message, payload_behind, with_word}
 use Rattle.scmi_text.specs.PackedStep.{raw_with}
 use Rattle.scmi_text.specs.StepText.{agent_head, command_head, first_head, head_of, payload_of, step_of_line}
 use Rattle.scmi_text.specs.TextLines.{after_each_line}
 use Rattle.scmi_check.specs.LeftOut.{LeftView, nothing_left}
+use Rattle.scmi_check.specs.Asking.{with_asked, with_given_up}
 use Rattle.scmi_check.specs.RecordText.{RecordView, command_taken, record_left, token_taken, with_answer, with_called, with_line, with_posted, with_shown}
 use Rattle.scmi_check.specs.declared.run.TheConstants.{PROTOCOLS}
 use Rattle.scmi_check.specs.Shown.{first_words, seen_at, seen_behind, session_shown, shown_at}
@@ -42,25 +43,27 @@ with_notes notes = record { notes = notes; skipped = 0; protocols = [] }
 abbrev pub only : List Placed → RecordView
 only entries = record { entries = entries; left = nothing_left }
 
--- each form of a line, with a comment and a blank line; the second `do` of agent 1 has its next token, and `raw` its own
+-- each form of a line, with a comment and a blank line; a message is between a command and its answer; the second `do` of agent 1 has its next token, and `raw` its own
 whole_record : record_left PROTOCOLS 2 (whole (codes "do 1 0x11 5 0\n1 reply 0x4405 0 7\n# later\nraw 2 0x4000 9\n\n2 error\n1 p2a 0x4604 0\ndo 1 16 3\n1 p2a 0x4700\n1 released\nbad 2 5 0x4000\n2 error\n"))
     ≡ Ok (only (
     at 2 (Answered 1 (command 0x11 0 5 (0 ∷ [])) (Reply (raw_with 0x4405 (0 ∷ 7 ∷ []))))
     ∷ at 6 (Answered 2 (Good (raw_with 0x4000 (9 ∷ []))) ChannelError)
     ∷ at 7 (Delivered 1 (raw_with 0x4604 (0 ∷ [])))
+    ∷ at 8 (Asked 0 1 (command 0x10 1 3 []))
     ∷ at 9 (Delivered 1 (raw_with 0x4700 []))
-    ∷ at 10 (Answered 1 (command 0x10 1 3 []) Released)
+    ∷ at 10 (Replied 0 1 (command 0x10 1 3 []) Released)
     ∷ at 12 (Answered 2 (Malformed 5 0x4000) ChannelError) ∷ []))
-unfolding behind_spaces first_number item_at items_up_to number_of first_agent first_message payload_behind with_word agent_head command_head first_head head_of payload_of step_of_line after_each_line lines_of lines_behind cpu_left stamp_left first_words seen_at seen_behind session_shown shown_at command_taken token_taken with_answer with_called with_line with_posted with_shown
+unfolding behind_spaces first_number item_at items_up_to number_of first_agent first_message payload_behind with_word agent_head command_head first_head head_of payload_of step_of_line after_each_line lines_of lines_behind cpu_left stamp_left first_words seen_at seen_behind session_shown shown_at command_taken token_taken with_answer with_asked with_called with_given_up with_line with_posted with_shown
 whole_record = refl
 
--- two agents' commands that have no answer, in order, before a message, and one that has its answer
+-- two agents' commands that wait for their answers, in order, at a message; one has its answer behind it, and one none
 no_answers : record_left PROTOCOLS 2 (whole (codes "#\ndo 2 16 3\ndo 1 16 3\n2 p2a 0x4700\n1 released\nraw 1 0x4000\n"))
     ≡ Ok (record {
-      entries = at 4 (Delivered 2 (raw_with 0x4700 [])) ∷ at 5 (Answered 1 (command 0x10 0 3 []) Released) ∷ [];
+      entries = at 2 (Asked 0 2 (command 0x10 0 3 [])) ∷ at 3 (Asked 1 1 (command 0x10 0 3 [])) ∷ at 4 (Delivered 2 (raw_with 0x4700 []))
+          ∷ at 5 (Replied 1 1 (command 0x10 0 3 []) Released) ∷ [];
       left = with_notes (noted 2 Unanswered ∷ noted 6 Unanswered ∷ []);
     })
-unfolding behind_spaces first_number item_at items_up_to number_of first_agent first_message payload_behind with_word agent_head command_head first_head head_of payload_of step_of_line after_each_line lines_of lines_behind cpu_left stamp_left first_words seen_at seen_behind session_shown shown_at command_taken token_taken with_answer with_called with_line with_posted with_shown
+unfolding behind_spaces first_number item_at items_up_to number_of first_agent first_message payload_behind with_word agent_head command_head first_head head_of payload_of step_of_line after_each_line lines_of lines_behind cpu_left stamp_left first_words seen_at seen_behind session_shown shown_at command_taken token_taken with_answer with_asked with_called with_given_up with_line with_posted with_shown
 no_answers = refl
 
 -- of other protocols than those that are judged: a command with its answer, a message, and a command that has no answer
@@ -69,12 +72,12 @@ other_protocols : record_left (0x10 ∷ 0x13 ∷ []) 2 (whole (codes "raw 1 0x4c
       entries = at 2 (Answered 1 (Good (raw_with 0x4c00 [])) ChannelError) ∷ [];
       left = record { notes = []; skipped = 4; protocols = 0x11 ∷ 0x14 ∷ [] };
     })
-unfolding behind_spaces first_number item_at items_up_to number_of first_agent first_message payload_behind with_word agent_head command_head first_head head_of payload_of step_of_line after_each_line lines_of lines_behind cpu_left stamp_left first_words seen_at seen_behind session_shown shown_at command_taken token_taken with_answer with_called with_line with_posted with_shown
+unfolding behind_spaces first_number item_at items_up_to number_of first_agent first_message payload_behind with_word agent_head command_head first_head head_of payload_of step_of_line after_each_line lines_of lines_behind cpu_left stamp_left first_words seen_at seen_behind session_shown shown_at command_taken token_taken with_answer with_asked with_called with_given_up with_line with_posted with_shown
 other_protocols = refl
 
 -- an answer before a command, to another agent's, a command before the one of its agent that waits has its answer, an agent that the board lacks, and a step that posts nothing
 first_faults : map (λ text. record_left PROTOCOLS 2 (whole text)) (
     codes "1 error" ∷ codes "do 1 16 3\n2 error" ∷ codes "do 1 16 3\ndo 1 16 3\n" ∷ codes "3 p2a 0x4700" ∷ codes "serve 1" ∷ [])
     ≡ Err 1 ∷ Err 2 ∷ Err 2 ∷ Err 1 ∷ Err 1 ∷ []
-unfolding behind_spaces first_number item_at items_up_to number_of first_agent first_message payload_behind with_word agent_head command_head first_head head_of payload_of step_of_line after_each_line lines_of lines_behind cpu_left stamp_left first_words seen_at seen_behind session_shown shown_at command_taken token_taken with_answer with_called with_line with_posted with_shown
+unfolding behind_spaces first_number item_at items_up_to number_of first_agent first_message payload_behind with_word agent_head command_head first_head head_of payload_of step_of_line after_each_line lines_of lines_behind cpu_left stamp_left first_words seen_at seen_behind session_shown shown_at command_taken token_taken with_answer with_asked with_called with_given_up with_line with_posted with_shown
 first_faults = refl

@@ -7,7 +7,7 @@ use Rattle.scmi_codec.specs.declared.message.Message.{Message}
 use Rattle.scmi_codec.specs.Header.{is_same_header}
 use Rattle.scmi_judge.specs.Due.{in_place}
 use Rattle.scmi_judge.specs.declared.entry.Entry.{Entry}
-use Rattle.scmi_judge.specs.declared.entry.Entry.TheVariants.{Answered}
+use Rattle.scmi_judge.specs.declared.entry.Entry.TheVariants.{Answered, Replied}
 use Rattle.scmi_judge.specs.declared.verdict.Verdict.{Verdict}
 use Rattle.scmi_judge.specs.declared.verdict.Verdict.TheVariants as verdict
 use Rattle.scmi_check.specs.Own.{own_rule}
@@ -24,6 +24,7 @@ reply_finding command due seen =
 -- another answer than the reply that was due
 abbrev pub answer_finding : Entry → Message → Finding
 answer_finding (Answered a (Good command) (Reply seen)) due = reply_finding command due seen
+answer_finding (Replied place a (Good command) (Reply seen)) due = reply_finding command due seen
 answer_finding _ due = Differs
 
 -- what is found of an entry with a verdict

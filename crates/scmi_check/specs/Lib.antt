@@ -1,4 +1,5 @@
 pub mod AreaShown
+pub mod Asking
 pub mod Check
 pub mod CheckError
 pub mod Checked

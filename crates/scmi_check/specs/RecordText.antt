@@ -11,8 +11,9 @@ use Rattle.scmi_codec.specs.declared.header.TheConstants.{TOKENS}
 use Rattle.scmi_codec.specs.declared.message.Message.{Message}
 use Rattle.scmi_plan.specs.declared.limits.TheConstants.{AGENTS}
 use Rattle.scmi_judge.specs.declared.entry.Entry.{Entry}
-use Rattle.scmi_judge.specs.declared.entry.Entry.TheVariants.{Answered, Delivered}
+use Rattle.scmi_judge.specs.declared.entry.Entry.TheVariants.{Answered, Asked, Delivered, GivenUp, Replied}
 use Rattle.scmi_text.specs.TextLines.{after_each_line}
+use Rattle.scmi_check.specs.Asking.{AskingView, asking_view, nothing_asked, place_of_line, with_all_asked, with_all_given_up, with_free, with_one}
 use Rattle.scmi_text.specs.declared.step.Call.{Call}
 use Rattle.scmi_check.specs.LeftOut.{LeftView, frame_protocol, is_judged, left_view, nothing_left, with_left, with_no_answer, with_no_answers, with_note, with_notes, with_skipped}
 use Rattle.scmi_check.specs.Shown.{shown_at}
@@ -36,13 +37,15 @@ pub record RecordView : Type 0 where
 abbrev pub record_view : Record → RecordView
 record_view read = record { entries = read.entries.items; left = left_view read.left }
 
--- what lines show: entries at their lines, what is not judged, the protocols that are judged, the commands whose answers are still to come, in order, and those of traces, the last response of a trace that answers no command, if no command of a trace is behind it, and the next token of each agent
+-- what lines show: entries at their lines, the line of the command at each place, what is not judged, the protocols that are judged, the commands whose answers are still to come, in order, and those of traces, those to which no answer comes, and of which no entry shows that yet, the last response of a trace that answers no command, if no command of a trace is behind it, and the next token of each agent
 pub record Shows : Type 0 where
   pub entries : List Placed
+  pub asked : List (Option ℕ)
   pub left : LeftView
   pub judged : List ℕ
   pub waiting : List Waiting
   pub traced : List Waiting
+  pub given_up : List Waiting
   pub early : Option Early
   pub tokens : List ℕ
 
@@ -50,11 +53,13 @@ pub record Shows : Type 0 where
 abbrev pub shows_of : SoFar → Shows
 shows_of so_far =
     record {
-      entries = so_far.entries.items;
+      entries = (asking_view so_far.asking).entries;
+      asked = (asking_view so_far.asking).asked;
       left = left_view so_far.left;
       judged = so_far.judged.now;
       waiting = so_far.waiting.items;
       traced = so_far.traced.items;
+      given_up = so_far.given_up.items;
       early = so_far.early;
       tokens = so_far.tokens;
     }
@@ -72,16 +77,44 @@ told shows = record shows { entries = []; left = with_notes shows.left [] }
 
 -- no line shows anything, and these protocols are judged
 abbrev pub nothing_shown : List ℕ → Shows
-nothing_shown judged = record { entries = []; left = nothing_left; judged = judged; waiting = []; traced = []; early = None; tokens = replicate AGENTS 0 }
+nothing_shown judged =
+    record {
+      entries = [];
+      asked = nothing_asked.asked;
+      left = nothing_left;
+      judged = judged;
+      waiting = [];
+      traced = [];
+      given_up = [];
+      early = None;
+      tokens = replicate AGENTS 0;
+    }
 
 -- the protocol of an entry, of a message that is well formed
 abbrev pub entry_protocol : Entry → Option ℕ
 entry_protocol (Answered a frame answer) = frame_protocol frame
 entry_protocol (Delivered a message) = Some message.header.protocol
+entry_protocol (Asked place a frame) = frame_protocol frame
+entry_protocol (Replied place a frame answer) = frame_protocol frame
+entry_protocol (GivenUp place) = None
+
+-- the entries that are shown, and the commands among them that are answered later
+abbrev pub asking_of : Shows → AskingView
+asking_of shows = record { entries = shows.entries; asked = shows.asked }
+
+-- the same of what lines show
+abbrev pub with_asking : Shows → AskingView → Shows
+with_asking shows asking = record shows { entries = asking.entries; asked = asking.asked }
+
+-- before another entry: no answer comes to the commands that were given up, and those that wait are answered later
+abbrev pub ready : Shows → AskingView
+ready shows =
+    with_all_asked shows.judged
+    (with_all_asked shows.judged (with_all_given_up shows.judged (asking_of shows) shows.given_up) shows.waiting) shows.traced
 
 -- one entry more, at the line of this number
 abbrev pub with_judged : Shows → ℕ → Entry → Shows
-with_judged shows line entry = record shows { entries = shows.entries ++ record { line = line; entry = entry } ∷ [] }
+with_judged shows line entry = with_asking (record shows { given_up = [] }) (with_one (ready shows) line entry)
 
 -- the same of an entry of this protocol: it is skipped unless the protocol is judged
 abbrev pub with_entry_of : Option ℕ → Shows → ℕ → Entry → Shows
@@ -122,11 +155,11 @@ with_called shows line a call = do
   with_posted token.1 line a (Good (record { header = protocol_header call.protocol token.0 call.message; payload = call.payload }))
 
 -- the command at a place among those that wait for their answers, and the others
-abbrev pub taken_at : List Waiting → ℕ → Option (Frame × List Waiting)
-taken_at waiting place = slice_get waiting place >>= λ command. Some (command.frame, remove waiting place)
+abbrev pub taken_at : List Waiting → ℕ → Option (Waiting × List Waiting)
+taken_at waiting place = slice_get waiting place >>= λ command. Some (command, remove waiting place)
 
 -- the command of an agent among those that wait for their answers, and the others; none if no command of the agent waits
-unfoldable pub command_taken : List Waiting → ℕ → Option (Frame × List Waiting)
+unfoldable pub command_taken : List Waiting → ℕ → Option (Waiting × List Waiting)
 command_taken waiting a = position (is_by a) waiting >>= λ place. taken_at waiting place
 
 -- whether a frame is a message with this token
@@ -155,7 +188,11 @@ with_trace shows line a frame = record shows { traced = shows.traced ++ record {
 abbrev pub token_free : Shows → ℕ → ℕ → Shows
 token_free shows a token = elim (taken_with shows.traced a token) [
   | None ↦ shows
-  | Some taken ↦ record shows { traced = taken.1; left = with_no_answer shows.judged shows.left taken.0 }
+  | Some taken ↦ record shows {
+    traced = taken.1;
+    given_up = shows.given_up ++ taken.0 ∷ [];
+    left = with_no_answer shows.judged shows.left taken.0;
+  }
 ]
 
 -- no response is early any more
@@ -169,18 +206,37 @@ with_traced shows line a message =
     if is_early free.early a message.header.token then with_unmatched (none_early free) line message.header.protocol
     else with_trace (none_early free) line a (Good message)
 
+-- a command with its answer, which comes to this place, if the command has one
+abbrev pub answered_at : Option ℕ → Shows → ℕ → Waiting → Answer → Shows
+answered_at None shows line command answer = with_entry shows line (Answered command.agent command.frame answer)
+answered_at (Some place) shows line command answer =
+    let after = with_entry shows line (Replied place command.agent command.frame answer) in
+    with_asking after (with_free (asking_of after) place)
+
+-- a command with its answer
+abbrev pub with_answered : Shows → ℕ → Waiting → Answer → Shows
+with_answered shows line command answer = answered_at (place_of_line (asking_of shows) command.line) shows line command answer
+
 -- the answer to the command of its agent that waits
 unfoldable pub with_answer : Shows → ℕ → ℕ → Answer → Option Shows
 with_answer shows line a answer = do
   taken ← command_taken shows.waiting a
-  Some (with_entry (record shows { waiting = taken.1 }) line (Answered a taken.0 answer))
+  Some (with_answered (record shows { waiting = taken.1 }) line taken.0 answer)
 
 -- the response of a trace to the command of its agent that waits with its token; if none waits it is not judged
 abbrev pub with_response : Shows → ℕ → ℕ → Message → Shows
 with_response shows line a message = elim (taken_with shows.traced a message.header.token) [
   | None ↦ with_unmatched (record shows { early = Some (record { agent = a; token = message.header.token }) }) line message.header.protocol
-  | Some taken ↦ with_entry (record shows { traced = taken.1 }) line (Answered a taken.0.frame (Reply message))
+  | Some taken ↦ with_answered (record shows { traced = taken.1 }) line taken.0 (Reply message)
 ]
+
+-- no answer comes to a command
+abbrev pub given_up : Shows → Waiting → Shows
+given_up shows command = record shows { given_up = shows.given_up ++ command ∷ [] }
+
+-- no answers come to the commands of a trace that wait
+abbrev pub all_given_up : Shows → Shows
+all_given_up shows = record shows { traced = []; given_up = shows.given_up ++ shows.traced }
 
 -- events of a trace are lost: the commands of it that wait get no answer
 abbrev pub with_lost : Shows → ℕ → LostEvents → Shows
@@ -188,6 +244,7 @@ with_lost shows line lost =
     record shows {
       left = with_note (with_no_answers shows.judged shows.left shows.traced) (record { line = line; kind = Lost lost });
       traced = [];
+      given_up = shows.given_up ++ shows.traced;
       early = None;
     }
 

@@ -20,6 +20,10 @@ pub(crate) fn deciding_word(one: &Judged, refusals: Refusals) -> Option<&'static
             Entry::Answered {
                 frame: Frame::Good(command),
                 ..
+            }
+            | Entry::Replied {
+                frame: Frame::Good(command),
+                ..
             },
             Verdict::Answer(Answer::Reply(due)),
         ) => check_word(command, due.payload.as_slice()),

@@ -7,12 +7,17 @@ use scmi_judge::Entry;
 /// of a message that the profile lacks.
 pub(crate) fn entry_name(entry: &Entry) -> Option<&'static str> {
     match entry {
-        Entry::Answered {
-            frame: Frame::Good(command),
-            ..
-        } => command_name(&command.header),
-        Entry::Answered { .. } => None,
+        Entry::Answered { frame, .. } | Entry::Asked { frame, .. } | Entry::Replied { frame, .. } =>
+            frame_name(frame),
+        Entry::GivenUp { .. } => None,
         Entry::Delivered { message, .. } => delivered_name(&message.header),
+    }
+}
+
+fn frame_name(frame: &Frame) -> Option<&'static str> {
+    match frame {
+        Frame::Good(command) => command_name(&command.header),
+        Frame::Malformed { .. } => None,
     }
 }
 

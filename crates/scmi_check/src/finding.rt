@@ -39,6 +39,11 @@ fn answer_finding(entry: &Entry, due: &Message) -> Finding
             frame: Frame::Good(command),
             answer: Answer::Reply(seen),
             ..
+        }
+        | Entry::Replied {
+            frame: Frame::Good(command),
+            answer: Answer::Reply(seen),
+            ..
         } => reply_finding(command, due, seen),
         _ => Finding::Differs,
     }

@@ -70,8 +70,11 @@ fn write_reasons<W: Write>(writer: &mut W, one: &Judged) -> io::Result<()> {
     }
     write!(writer, ",\"got\":")?;
     match &one.entry {
-        Entry::Answered { answer, .. } => write_answer(writer, answer),
+        Entry::Answered { answer, .. } | Entry::Replied { answer, .. } => {
+            write_answer(writer, answer)
+        }
         Entry::Delivered { message, .. } => write_words(writer, message),
+        Entry::Asked { .. } | Entry::GivenUp { .. } => write!(writer, "null"),
     }
 }
 

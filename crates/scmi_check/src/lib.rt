@@ -7,6 +7,7 @@
 #![tactic(auto)]
 
 mod area_shown;
+mod asking;
 mod check;
 mod check_error;
 mod check_row;

@@ -26,8 +26,11 @@ pub(crate) fn write_reasons<W: Write>(
     }
     write!(writer, ", got")?;
     match entry {
-        Entry::Answered { answer, .. } => write_answer(writer, answer),
+        Entry::Answered { answer, .. } | Entry::Replied { answer, .. } => {
+            write_answer(writer, answer)
+        }
         Entry::Delivered { message, .. } => write_message_text(writer, message),
+        Entry::Asked { .. } | Entry::GivenUp { .. } => write!(writer, " a command"),
     }
 }
 

@@ -120,6 +120,10 @@ impl<W: Write> Listener for Report<'_, W> {
     }
 
     fn found(&mut self, one: &Judged) -> Result<(), CheckError> {
+        // A command that is answered later has its line with its answer.
+        if one.finding() == Finding::Same && is_without_answer(&one.entry) {
+            return Ok(());
+        }
         match self.write_entry(one) {
             Ok(()) => Ok(()),
             Err(_) => Err(CheckError::Write),
@@ -132,6 +136,11 @@ impl<W: Write> Listener for Report<'_, W> {
             Err(_) => Err(CheckError::Write),
         }
     }
+}
+
+/// Whether an entry is a command that is answered later, or never.
+fn is_without_answer(entry: &Entry) -> bool {
+    matches!(entry, Entry::Asked { .. } | Entry::GivenUp { .. })
 }
 
 fn write_line<W: Write>(

@@ -4,8 +4,9 @@ ghost use Rattle.scmi_codec.specs.declared.header.TheConstants.{TOKENS};
 ghost use Rattle.scmi_board.specs.LineError.{Gives, GivesUnless};
 ghost use Rattle.scmi_board.specs.TextError.{IsOfScript};
 ghost use Rattle.scmi_text.specs.TextLines.{GivesScript};
-ghost use Rattle.scmi_check.specs.RecordText.{entry_protocol, finished, nothing_shown, record_view, shows_of, told, token_free, token_taken, with_answer, with_called, with_entry, with_lost, with_posted, with_response, with_shown, with_trace, with_traced, with_unmatched, with_waiting};
+ghost use Rattle.scmi_check.specs.RecordText.{all_given_up, given_up, entry_protocol, finished, nothing_shown, record_view, ready, shows_of, told, token_free, token_taken, with_answer, with_answered, with_asking, with_called, with_entry, with_lost, with_posted, with_response, with_shown, with_trace, with_traced, with_unmatched, with_waiting};
 
+use crate::asking::Asking;
 use crate::left_out::{LeftOut, frame_protocol, is_judged};
 use crate::lost::Lost;
 use crate::note::{Note, NoteKind};
@@ -23,13 +24,15 @@ use std::alloc::Global;
 /// What the lines of a record show so far. After an error it is of no use.
 #[derive(Drop)]
 pub(crate) struct SoFar<'a> {
-    entries: Vec<Placed>,
+    asking: Asking,
     left: LeftOut,
     // The protocols that are judged.
     judged: &'a [u8],
     // The commands whose answers are still to come, in order, and those of traces.
     waiting: Vec<Waiting>,
     traced: Vec<Waiting>,
+    // Commands to which no answer comes, and of which no entry shows that yet.
+    given_up: Vec<Waiting>,
     // The last response of a trace that answers no command, until another command of a trace.
     early: Option<Early>,
     // The next token of each agent, from agent 1 on.
@@ -42,11 +45,12 @@ impl<'a> SoFar<'a> {
         ensures { shows_of result ≡ nothing_shown judged.now }
     {
         SoFar {
-            entries: Vec::new(alloc),
+            asking: Asking::new(alloc),
             left: LeftOut::new(alloc),
             judged,
             waiting: Vec::new(alloc),
             traced: Vec::new(alloc),
+            given_up: Vec::new(alloc),
             early: None,
             tokens: [0; AGENTS],
         }
@@ -74,7 +78,7 @@ impl<'a> SoFar<'a> {
     pub fn entries(&self) -> &[Placed]
         ensures { result.now ≡ (shows_of self.now).entries }
     {
-        &self.entries
+        &self.asking.entries
     }
 
     /// What is noted.
@@ -88,7 +92,7 @@ impl<'a> SoFar<'a> {
     pub fn forget(&mut self)
         ensures { shows_of self.new ≡ told (shows_of self.old) }
     {
-        self.entries.clear();
+        self.asking.entries.clear();
         self.left.notes.clear();
     }
 
@@ -98,11 +102,12 @@ impl<'a> SoFar<'a> {
         ensures record { GivesScript record_view result (Ok (finished (shows_of self.entry))) }
     {
         let SoFar {
-            entries,
+            asking,
             mut left,
             judged,
             waiting,
             traced,
+            given_up: _,
             early: _,
             tokens: _,
         } = self;
@@ -112,6 +117,7 @@ impl<'a> SoFar<'a> {
         if left.add_unanswered(judged, &traced).is_err() {
             return Err(TextError::Memory);
         }
+        let Asking { entries, asked: _ } = asking;
         Ok(Record { entries, left })
     }
 
@@ -189,7 +195,7 @@ impl<'a> SoFar<'a> {
         match take_with(&mut self.traced, agent, token) {
             Some(command) => {
                 self.left.add_command(self.judged, &command)?;
-                Ok(())
+                self.give_up(command)
             }
             None => Ok(()),
         }
@@ -212,15 +218,42 @@ impl<'a> SoFar<'a> {
         ensures { GivesUnless (λ _. shows_of self.new) result
             (with_answer (shows_of self.old) line agent answer) }
     {
-        let frame = take_command(&mut self.waiting, agent)?;
+        let command = take_command(&mut self.waiting, agent)?;
+        self.push_answer(line, command, answer)
+    }
+
+    /// A command with its answer.
+    fn push_answer(&mut self, line: u32, command: Waiting, answer: Answer) -> Result<(), LineError>
+        ensures { GivesUnless (λ _. shows_of self.new) result
+            (Some (with_answered (shows_of self.old) line command answer)) }
+    {
+        let place = self.asking.place_of(command.line);
+        let Waiting {
+            line: _,
+            agent,
+            frame,
+        } = command;
+        let Some(place) = place else {
+            return self.push(
+                line,
+                Entry::Answered {
+                    agent,
+                    frame,
+                    answer,
+                },
+            );
+        };
         self.push(
             line,
-            Entry::Answered {
+            Entry::Replied {
+                place: place as u32,
                 agent,
                 frame,
                 answer,
             },
-        )
+        )?;
+        self.asking.free(place);
+        Ok(())
     }
 
     /// The response in a trace to the command of its agent that waits with its token. If none waits,
@@ -234,16 +267,7 @@ impl<'a> SoFar<'a> {
             self.early = Some(Early { agent, token });
             return self.leave(line, message.header.protocol());
         };
-        let frame = command.frame;
-        let answer = Answer::Reply(message);
-        self.push(
-            line,
-            Entry::Answered {
-                agent,
-                frame,
-                answer,
-            },
-        )
+        self.push_answer(line, command, Answer::Reply(message))
     }
 
     /// Events of a trace are lost: no command of it waits from here on.
@@ -252,10 +276,33 @@ impl<'a> SoFar<'a> {
             (Some (with_lost (shows_of self.old) line lost)) }
     {
         self.left.add_unanswered(self.judged, &self.traced)?;
-        self.traced.clear();
+        self.give_up_traced()?;
         self.early = None;
         let kind = NoteKind::Lost(lost);
         self.left.add(self.judged, None, Note { line, kind })?;
+        Ok(())
+    }
+
+    /// No answers come to the commands of a trace that wait.
+    fn give_up_traced(&mut self) -> Result<(), LineError>
+        ensures { GivesUnless (λ _. shows_of self.new) result
+            (Some (all_given_up (shows_of self.old))) }
+    {
+        'each: while !self.traced.is_empty() {
+            let command = self.traced.remove(0);
+            self.give_up(command)?;
+        }
+        Ok(())
+    }
+
+    /// No answer comes to a command.
+    fn give_up(&mut self, command: Waiting) -> Result<(), LineError>
+        ensures { GivesUnless (λ _. shows_of self.new) result
+            (Some (given_up (shows_of self.old) command)) }
+    {
+        let Ok(()) = self.given_up.push(command) else {
+            return Err(LineError::Memory);
+        };
         Ok(())
     }
 
@@ -281,9 +328,21 @@ impl<'a> SoFar<'a> {
             self.left.skip(protocol)?;
             return Ok(());
         }
-        let Ok(()) = self.entries.push(Placed { line, entry }) else {
-            return Err(LineError::Memory);
-        };
+        self.get_ready()?;
+        self.given_up.clear();
+        self.asking.push(line, entry)?;
+        Ok(())
+    }
+
+    /// Before another entry: no answer comes to the commands that were given up, and those that wait
+    /// are answered later.
+    fn get_ready(&mut self) -> Result<(), LineError>
+        ensures { GivesUnless (λ _. shows_of self.new) result
+            (Some (with_asking (shows_of self.old) (ready (shows_of self.old)))) }
+    {
+        self.asking.give_up_all(self.judged, &self.given_up)?;
+        self.asking.ask_all(self.judged, &self.waiting)?;
+        self.asking.ask_all(self.judged, &self.traced)?;
         Ok(())
     }
 }
@@ -293,7 +352,9 @@ fn entry_protocol(entry: &Entry) -> Option<u8>
     ensures { result ≡ entry_protocol entry.now }
 {
     match entry {
-        Entry::Answered { frame, .. } => frame_protocol(frame),
+        Entry::Answered { frame, .. } | Entry::Asked { frame, .. } | Entry::Replied { frame, .. } =>
+            frame_protocol(frame),
         Entry::Delivered { message, .. } => Some(message.header.protocol()),
+        Entry::GivenUp { .. } => None,
     }
 }

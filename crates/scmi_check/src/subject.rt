@@ -16,8 +16,15 @@ pub(crate) fn subject_of(entry: &Entry) -> Option<Resource> {
         Entry::Answered {
             frame: Frame::Good(command),
             ..
+        }
+        | Entry::Replied {
+            frame: Frame::Good(command),
+            ..
         } => command_subject(&Command::read(command)),
-        Entry::Answered { .. } => None,
+        Entry::Answered { .. }
+        | Entry::Replied { .. }
+        | Entry::Asked { .. }
+        | Entry::GivenUp { .. } => None,
         Entry::Delivered { message, .. } => message_subject(message),
     }
 }
@@ -26,6 +33,11 @@ pub(crate) fn subject_of(entry: &Entry) -> Option<Resource> {
 pub(crate) fn is_set(entry: &Entry) -> bool {
     match entry {
         Entry::Answered {
+            frame: Frame::Good(command),
+            answer,
+            ..
+        }
+        | Entry::Replied {
             frame: Frame::Good(command),
             answer,
             ..

@@ -23,14 +23,14 @@ pub(crate) struct Early {
 
 /// Takes the command of an agent from those that wait. `Form` if none waits.
 #[tactic(auto, unfolding(crate::specs::RecordText::command_taken))]
-pub(crate) fn take_command(waiting: &mut Vec<Waiting>, agent: u32) -> Result<Frame, LineError>
-    ensures { Gives (λ frame. (frame, waiting.new.items)) result
+pub(crate) fn take_command(waiting: &mut Vec<Waiting>, agent: u32) -> Result<Waiting, LineError>
+    ensures { Gives (λ command. (command, waiting.new.items)) result
         (command_taken waiting.old.items agent) }
 {
     let Some(place) = place_of(waiting, agent) else {
         return Err(LineError::Form);
     };
-    Ok(waiting.remove(place).frame)
+    Ok(waiting.remove(place))
 }
 
 /// The place of the command of an agent among those that wait, if it has one there.
