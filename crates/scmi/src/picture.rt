@@ -110,7 +110,11 @@ fn text_at<'a>(lines: &[&'a [u8]], number: u32) -> TextLine<'a> {
 
 /// What is drawn of a record and what is not, in a line.
 fn subtitle_of(alloc: Global, record: &Record) -> Result<Vec<u8>, AllocError> {
-    let drawn = record.entries.len();
+    let drawn = record
+        .entries
+        .iter()
+        .filter(|placed| is_drawn_whole(&placed.entry))
+        .count();
     let ending = if drawn == 1 { "y" } else { "ies" };
     let noted = record.left.notes.len();
     let skipped = record.left.skipped;
@@ -125,7 +129,13 @@ fn subtitle_of(alloc: Global, record: &Record) -> Result<Vec<u8>, AllocError> {
     Ok(text.into_bytes())
 }
 
-/// Draws an entry, whose answer or message is in this line.
+/// Whether an entry is a command with its answer, or a message.
+fn is_drawn_whole(entry: &Entry) -> bool {
+    !matches!(entry, Entry::Asked { .. } | Entry::GivenUp { .. })
+}
+
+/// Draws an entry, whose answer or message is in this line, or whose command, if that is answered
+/// later.
 fn draw(
     recorder: &mut Recorder<'_>,
     core: &Core,
@@ -138,6 +148,13 @@ fn draw(
             frame,
             answer,
         } => draw_answered(recorder, core, line, *agent, frame, answer),
+        Entry::Asked { agent, frame, .. } => {
+            draw_posted(recorder, core, line, *agent, step_of(frame))
+        }
+        Entry::Replied { agent, answer, .. } => {
+            draw_collected(recorder, core, line, *agent, answer)
+        }
+        Entry::GivenUp { .. } => Ok(()),
         Entry::Delivered { agent, message } => {
             let agent = *agent;
             let step = Step::Agent {
@@ -159,41 +176,60 @@ fn draw_answered(
     frame: &Frame,
     answer: &Answer,
 ) -> Result<(), AllocError> {
-    let step = match frame {
-        Frame::Good(message) if is_plain(message.header) => {
-            let collected = Collected::Got(answer.copy());
-            let call = call_of(message);
-            let step = Step::Do { agent, call };
-            return recorder.record(line, &step, &StepLine::Collected { agent, collected }, core);
-        }
+    if let Frame::Good(message) = frame
+        && is_plain(message.header)
+    {
+        let collected = Collected::Got(answer.copy());
+        let call = call_of(message);
+        let step = Step::Do { agent, call };
+        return recorder.record(line, &step, &StepLine::Collected { agent, collected }, core);
+    }
+    draw_posted(recorder, core, line, agent, step_of(frame))?;
+    let below = TextLine {
+        number: line.number,
+        text: b"",
+    };
+    draw_collected(recorder, core, below, agent, answer)
+}
+
+/// The step that posts a frame.
+fn step_of(frame: &Frame) -> AgentStep {
+    match frame {
         Frame::Good(message) => AgentStep::Raw(message.copy()),
         Frame::Malformed { length, header } => AgentStep::Malformed {
             length: *length,
             header: *header,
         },
-    };
-    draw_apart(recorder, core, line, agent, step, answer)
+    }
 }
 
-/// Draws a frame that no call posts, with its answer.
-fn draw_apart(
+/// Draws a frame by itself.
+fn draw_posted(
     recorder: &mut Recorder<'_>,
     core: &Core,
     line: TextLine<'_>,
     agent: u32,
     step: AgentStep,
+) -> Result<(), AllocError> {
+    let posts = Step::Agent { agent, step };
+    recorder.record(line, &posts, &StepLine::Posted { agent }, core)
+}
+
+/// Draws the answer to a frame that was drawn before.
+fn draw_collected(
+    recorder: &mut Recorder<'_>,
+    core: &Core,
+    line: TextLine<'_>,
+    agent: u32,
     answer: &Answer,
 ) -> Result<(), AllocError> {
     let number = line.number;
-    let posts = Step::Agent { agent, step };
-    recorder.record(line, &posts, &StepLine::Posted { agent }, core)?;
     let serves = Step::Platform {
         agent,
         step: PlatformStep::Serve,
     };
     let served = Served::Done;
-    let below = TextLine { number, text: b"" };
-    recorder.record(below, &serves, &StepLine::Served { agent, served }, core)?;
+    recorder.record(line, &serves, &StepLine::Served { agent, served }, core)?;
     let collects = Step::Agent {
         agent,
         step: AgentStep::Collect,
