@@ -1,25 +1,39 @@
 #!/usr/bin/env python3
-"""Judges a record by force: keeps each state of the model that may be behind its lines so far.
+"""Judges a record by force: keeps each state of the model that may be behind its lines so far, and what waits there.
 
     tests/records/exact.py BOARD RECORD [--refusals]
 
-A record is right if a legal history is behind it: each command is executed at the place of its answer, and what no
-line shows may stand anywhere. A pending set completes, the first of them first; a message is posted into its agent's
-channel, if that is empty; and with --refusals the hardware may have refused a pending set that wants a response.
+A record is right if a legal history is behind it: each command is executed anywhere between its line and that of its
+answer, or, if it has none, anywhere after its line or never; if it is to change the hardware at once, this may refuse.
+What no line shows may stand anywhere: a pending set completes, the first of them first; a message is posted into its
+agent's empty channel; and with --refusals the hardware may have refused a pending set that wants a response.
 Prints a report as `scmi check` does, as far as it goes: `N same` for each answer and message, `N differs` where the
 last history ends, and `N unsure` behind that, or where there are too many states to go on. The status is 5 if one
 differs.
 """
 import sys
+from typing import NamedTuple
 
 sys.dont_write_bytecode = True
-from model import (HARDWARE_ERROR, MOST_WAITING, agents_of, completed, executed, first_state,  # noqa: E402
-                   load_of, posted, refused, refused_answer, taken)
+from model import (HARDWARE_ERROR, MOST_WAITING, State, agents_of, completed, executed, first_state,  # noqa: E402
+                   load_of, posted, refused, refused_answer, taken, with_item)
 from texts import Answered, read_board, read_record  # noqa: E402
 
 MOST_STATES = 2000
 # The option of a check by which the hardware may have refused a pending set that wants a response.
 REFUSALS = "--refusals"
+
+
+class Command(NamedTuple):
+    """A frame that waits for its answer, and that answer once the command is executed."""
+    frame: tuple
+    answer: tuple = None
+
+
+class Guess(NamedTuple):
+    """What may be behind the lines so far: a state, and for each agent its command that waits, or None."""
+    state: State
+    commands: tuple
 
 
 class TooMany(Exception):
@@ -46,15 +60,29 @@ def post_late(state, agent):
     return posted(state, agent) if load_of(state, agent) == MOST_WAITING else None
 
 
+def executions(board, guess, agent):
+    """The guesses after the command of an agent was executed, or refused by the hardware."""
+    frame = guess.commands[agent - 1].frame
+    done = executed(board, guess.state, agent, frame)
+    yield with_command(guess, agent, Command(frame, done.answer), done.state)
+    if done.changes:
+        yield with_command(guess, agent, Command(frame, refused_answer(frame)), guess.state)
+
+
+def with_command(guess, agent, command, state):
+    """A guess with another command of an agent, and another state."""
+    return Guess(state, with_item(guess.commands, agent - 1, command))
+
+
 class Judge:
-    """The states that may be behind the entries so far."""
+    """The guesses that may be behind the entries so far."""
 
     def __init__(self, board, refuses, post=post_at_once, most=MOST_STATES):
         self.board, self.refuses, self.post, self.most = board, refuses, post, most
-        self.states = {first_state(board)}
+        self.guesses = {Guess(first_state(board), (None,) * len(board.agents))}
 
-    def steps(self, state):
-        """The states after one step that no line shows."""
+    def moves(self, state):
+        """The states after one step that no line shows, but of a command."""
         if state.pending:
             yield completed(self.board, state)
             if self.refuses and state.pending[0].wanted:
@@ -63,40 +91,59 @@ class Judge:
             if state.outboxes[agent - 1] and state.posted[agent - 1] is None:
                 yield self.post(state, agent)
 
-    def reached(self, states):
-        """The states that are reached by such steps alone."""
-        reached, left = set(states), list(states)
+    def steps(self, guess, excepted):
+        """The guesses after one step that no line shows; the excepted agent's command is not executed."""
+        for state in self.moves(guess.state):
+            if state is not None:
+                yield guess._replace(state=state)
+        for agent, command in enumerate(guess.commands, 1):
+            if command and not command.answer and agent != excepted:
+                yield from executions(self.board, guess, agent)
+
+    def reached(self, guesses, excepted=None):
+        """The guesses that are reached by such steps alone."""
+        reached, left = set(guesses), list(guesses)
         while left:
-            for state in self.steps(left.pop()):
-                if state is not None and state not in reached:
+            for guess in self.steps(left.pop(), excepted):
+                if guess not in reached:
                     if len(reached) == self.most:
                         raise TooMany
-                    reached.add(state)
-                    left.append(state)
+                    reached.add(guess)
+                    left.append(guess)
         return reached
 
-    def after_answer(self, state, entry):
-        done = executed(self.board, state, entry.agent, entry.frame)
-        if done.answer == entry.answer:
-            yield done.state
-        if done.changes and refused_answer(entry.frame) == entry.answer:
-            yield state
+    def answered(self, guess, agent):
+        """The guesses in which the command of an agent is executed: before, or else at the line of its answer."""
+        return [guess] if guess.commands[agent - 1].answer else executions(self.board, guess, agent)
 
-    def after_message(self, state, entry):
+    def after_answer(self, guess, entry):
+        for done in self.answered(guess, entry.agent):
+            if done.commands[entry.agent - 1].answer == entry.answer:
+                yield with_command(done, entry.agent, None, done.state)
+
+    def after_message(self, guess, entry):
+        state = guess.state
         if state.posted[entry.agent - 1] is None:
             state = posted(state, entry.agent)
         if state is not None and state.posted[entry.agent - 1] == entry.message:
-            yield taken(state, entry.agent)
+            yield guess._replace(state=taken(state, entry.agent))
 
-    def fitting(self, state, entry):
-        """The states after an entry, from one before it."""
-        return self.after_answer(state, entry) if isinstance(entry, Answered) else self.after_message(state, entry)
+    def fitting(self, guess, entry):
+        """The guesses after an entry, from one before it."""
+        return self.after_answer(guess, entry) if isinstance(entry, Answered) else self.after_message(guess, entry)
+
+    def ask(self, agent, frame):
+        """Goes on to the guesses after an agent has posted a frame."""
+        self.guesses = {with_command(guess, agent, Command(frame), guess.state) for guess in self.guesses}
 
     def see(self, entry):
-        """Goes on to the states after an entry; there is none if no history is left."""
-        self.before = self.reached(self.states)
-        self.states = {after for state in self.before for after in self.fitting(state, entry)}
-        return bool(self.states)
+        """Goes on to the guesses after an entry; there is none if no history is left."""
+        for agent, frame in entry.posted:
+            self.ask(agent, frame)
+        # A command that is executed directly before the line of its answer may as well be at that line.
+        self.before = self.reached(self.guesses, entry.agent if isinstance(entry, Answered) else None)
+        self.guesses = {after for guess in self.before for after in self.fitting(guess, entry)}
+        return bool(self.guesses)
 
 
 def last_line(board, entries, refuses, post=post_at_once, most=MOST_STATES):
@@ -118,7 +165,7 @@ def report_of(board, entries, refuses):
         if not right:
             break
         same += 1
-    differs = int(not judge.states)
+    differs = int(not judge.guesses)
     for entry in entries[same + differs:][:1]:
         yield f"{entry.line} unsure, and judged no further"
     yield f"{same} same, 0 own, {differs} differ"

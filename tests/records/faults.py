@@ -3,7 +3,7 @@
 Each kind gets the items of a record and gives them with its fault; None if there is no place for it. Such a record may
 have a legal history after all: what is expected of it is what exact.py says.
 """
-from history import Got, Took
+from history import Asked, Got, Took
 from model import CLOCK, OFF, ON, POWER, halves, protocol_of
 
 STATUSES = [-status & 0xFFFFFFFF for status in range(11)]
@@ -13,8 +13,12 @@ def places(items, wanted):
     return [place for place, item in enumerate(items) if wanted(item)]
 
 
+def is_answer(item):
+    return isinstance(item, Got)
+
+
 def is_reply(item):
-    return isinstance(item, Got) and item.answer[0] == "reply"
+    return is_answer(item) and item.answer[0] == "reply"
 
 
 def is_message(item):
@@ -141,20 +145,80 @@ def early(rng, items):
     return items[:to] + [items[place]] + items[to:place] + items[place + 1:]
 
 
+def pair_of(rng, items, wanted, near=12):
+    """The places of two replies that are near each other and wanted; None if there are none."""
+    answers = places(items, is_reply)
+    return one_of(rng, [(place, other) for place in answers for other in answers
+                        if 0 < abs(place - other) < near and wanted(items[place], items[other])])
+
+
 def other(rng, items):
     """An agent gets the answer that another got."""
-    answers = places(items, is_reply)
-    pairs = [(place, from_) for place in answers for from_ in answers if abs(place - from_) < 12
-             and items[place].agent != items[from_].agent and items[place].answer != items[from_].answer]
-    pair = one_of(rng, pairs)
+    pair = pair_of(rng, items, lambda item, other: item.agent != other.agent and item.answer != other.answer)
     if pair is None:
         return None
     place, from_ = pair
     return items[:place] + [items[place]._replace(answer=items[from_].answer)] + items[place + 1:]
 
 
+def message_of(item):
+    """The protocol, the type and the message id of the command that is answered."""
+    return item.frame[1] & 0x3FFFF
+
+
+def answers_differ(item, other):
+    """Whether two commands are of the same message and their answers differ."""
+    return message_of(item) == message_of(other) and words_of(item) != words_of(other)
+
+
+def elsewhere(rng, items):
+    """A command gets the answer that the same command gets at another place."""
+    pair = pair_of(rng, items, lambda item, other: item.frame[2] == other.frame[2] and answers_differ(item, other),
+                   len(items))
+    if pair is None:
+        return None
+    place, from_ = pair
+    return items[:place] + [with_words(items[place], words_of(items[from_]))] + items[place + 1:]
+
+
+def exchanged(rng, items):
+    """The answers to two commands of the same message are exchanged between agents."""
+    pair = pair_of(rng, items, lambda item, other: item.agent != other.agent and answers_differ(item, other))
+    if pair is None:
+        return None
+    first, second = sorted(pair)
+    return [*items[:first], with_words(items[first], words_of(items[second])), *items[first + 1:second],
+            with_words(items[second], words_of(items[first])), *items[second + 1:]]
+
+
+def asked_late(_, items):
+    """Each command is posted directly before its answer, after it was executed perhaps."""
+    late, asked = [], {}
+    for item in items:
+        if isinstance(item, Asked):
+            asked[item.agent] = item
+        else:
+            late += [asked.pop(item.agent), item] if is_answer(item) else [item]
+    late += asked.values()
+    return None if late == items else late
+
+
+def answered_early(_, items):
+    """Each answer comes directly after its command, before this was executed perhaps."""
+    early, answers = [], list(filter(is_answer, items))
+    for item in items:
+        if not is_answer(item):
+            early.append(item)
+        answer = next((one for one in answers if isinstance(item, Asked) and one.agent == item.agent), None)
+        if answer:
+            answers.remove(answer)
+            early.append(answer)
+    return None if early == items else early
+
+
 KINDS = {
     "status": status, "word": word, "header": header, "short": short, "long": long, "error": error, "stale": stale,
     "message-word": message_word, "message-header": message_header, "twice": twice, "lost": lost, "swapped": swapped,
-    "early": early, "other": other,
+    "early": early, "other": other, "elsewhere": elsewhere, "exchanged": exchanged, "asked-late": asked_late,
+    "answered-early": answered_early,
 }

@@ -54,6 +54,9 @@ class Mix(NamedTuple):
     takings: float = 8
     deaf: float = 0  # the share of agents that take no message
     refusals: float = 0  # the share of changes that the hardware refuses
+    prompt: float = 0.8  # the share of commands whose answers follow at once
+    executions: float = 0  # how often one command is executed, and one answer shown, while others wait
+    silent: float = 0  # the share of commands that get no answer, of which half are never executed
     sizes: tuple = ("small",) * 14 + ("middle",) * 5 + ("large",)
 
 
@@ -69,6 +72,14 @@ MIXES = {
                  sizes=("flood",)),
     "eight": Mix({"later": 6, "quiet": 4, "set": 1, "read": 2}, completions=0.6, sizes=("many",)),
     "refusing": Mix({"later": 5, "set": 3, "config": 1, "read": 4, "notify": 1}, refusals=0.3),
+    "overlapping": Mix({"read": 5, "set": 5, "later": 2, "notify": 2, "config": 1, "other": 1, "wrong": 1},
+                       refusals=0.05, prompt=0.1, executions=8, sizes=("two",)),
+    "overlapping-more": Mix({"read": 5, "set": 4, "quiet": 1, "later": 1, "notify": 1, "permit": 1, "wrong": 1},
+                            prompt=0.2, executions=12, sizes=("more",)),
+    "overlapping-many": Mix({"read": 6, "set": 4, "notify": 1, "permit": 1, "config": 1}, prompt=0.3, executions=16,
+                            sizes=("eight",)),
+    "unanswered": Mix({"read": 4, "set": 5, "later": 2, "notify": 2, "permit": 1}, prompt=0.3, executions=10,
+                      silent=0.1, sizes=("two", "more")),
 }
 
 
@@ -86,7 +97,13 @@ SIZES = {
     "large": Size((8, 8), (16, 32), (16, 32), (0, 32)),
     "flood": Size((1, 3), (1, 2), (0, 1), (0, 1)),
     "many": Size((1, 3), (3, 6), (5, 7), (0, 1)),
+    "two": Size((2, 2), (1, 2), (0, 1), (0, 1)),
+    "more": Size((3, 5), (1, 2), (0, 1), (0, 1)),
+    "eight": Size((8, 8), (1, 2), (0, 1), (0, 1)),
 }
+
+# The sizes of boards on which each domain supports all kinds of sets, and notifications.
+FULL = ("flood", "many", "two", "more", "eight")
 
 
 # Boards
@@ -110,7 +127,7 @@ def some_of(rng, count):
 
 
 def some_domain(rng, size):
-    kinds = frozenset("san") if size in ("flood", "many") else frozenset(kind for kind in "san" if rng.random() < 0.75)
+    kinds = frozenset("san") if size in FULL else frozenset(kind for kind in "san" if rng.random() < 0.75)
     return Domain(some_name(rng), rng.choice((ON, OFF)), kinds)
 
 
@@ -263,7 +280,8 @@ class History:
     def __init__(self, rng, board, mix):
         self.rng, self.board, self.mix = rng, board, mix
         self.state, self.items, self.refuses = first_state(board), [], False
-        self.commands, self.tokens, self.waiting = Commands(rng, board), Tokens(), {}
+        self.commands, self.tokens, self.waiting, self.answers = Commands(rng, board), Tokens(), {}, {}
+        self.silent, self.never = set(), set()
         self.deaf = {agent for agent in agents_of(board) if rng.random() < mix.deaf}
         self.past = {}
 
@@ -281,26 +299,57 @@ class History:
 
     def ask(self):
         agent = self.commands.agent()
-        if agent in self.waiting:
-            return self.answer(agent)
+        if not self.is_free(agent):
+            if not self.mix.executions:
+                self.answer(agent)
+            return
         kinds = self.mix.kinds
         kind = self.rng.choices(list(kinds), kinds.values())[0]
-        if kind in ("permit", "reset") and self.rng.random() < 0.9 and self.board.trusted not in self.waiting:
+        if kind in ("permit", "reset") and self.rng.random() < 0.9 and self.is_free(self.board.trusted):
             agent = self.board.trusted
         word, numbers = posted_by(self.rng, agent, getattr(self.commands, kind)())
         self.items.append(Asked(agent, " ".join([word, str(agent), *(f"{one:#x}" for one in numbers)])))
         self.waiting[agent] = frame_of(word, agent, numbers, self.tokens)
-        if self.rng.random() < 0.8:
+        if self.mix.silent and self.rng.random() < self.mix.silent:
+            self.fall_silent(agent)
+        elif self.rng.random() < self.mix.prompt:
             self.answer(agent)
 
+    def is_free(self, agent):
+        return agent not in self.waiting and agent not in self.answers
+
+    def fall_silent(self, agent):
+        """The command of an agent gets no answer, and some such are never executed; one agent goes on."""
+        if len(self.silent) + 1 < len(self.board.agents):
+            self.silent.add(agent)
+            if self.rng.randrange(2):
+                self.never.add(agent)
+
     def answer(self, agent):
+        if agent in self.silent:
+            return
+        if agent in self.waiting:
+            self.execute(agent)
+        self.items.append(self.answers.pop(agent))
+
+    def execute(self, agent):
         frame = self.waiting.pop(agent)
         done = executed(self.board, self.state, agent, frame)
         answer, state = done.answer, done.state
         if done.changes and self.fails():
             answer, state = refused_answer(frame), self.state
-        self.items.append(Got(agent, frame, answer, self.past_of(frame)))
+        self.answers[agent] = Got(agent, frame, answer, self.past_of(frame))
         self.move(state)
+
+    def execute_one(self):
+        agent = self.one_of(set(self.waiting) - self.never)
+        if agent:
+            self.execute(agent)
+
+    def answer_one(self):
+        agent = self.one_of(set(self.answers) - self.silent)
+        if agent:
+            self.answer(agent)
 
     def past_of(self, frame):
         what = frame[0] == "good" and frame[2] and (frame[1] >> 10 & 0xFF, frame[2][0])
@@ -330,8 +379,9 @@ class History:
 
     def go_on(self, entries):
         """Goes on until so many answers and messages are shown, or a while."""
-        steps = (self.ask, self.complete, self.post, self.take)
-        weights = (10, self.mix.completions, self.mix.postings, self.mix.takings)
+        mix = self.mix
+        steps = (self.ask, self.complete, self.post, self.take, self.execute_one, self.answer_one)
+        weights = (10, mix.completions, mix.postings, mix.takings, mix.executions, mix.executions)
         for _ in range(20 * entries):
             self.rng.choices(steps, weights)[0]()
             if sum(not isinstance(item, Asked) for item in self.items) >= entries:

@@ -4,7 +4,7 @@ from typing import NamedTuple
 
 from exact import Judge, TooMany, is_refusal
 from model import (BASE, CLOCK, INVALID_PARAMETERS, NOT_FOUND, OUT_OF_RANGE, POWER, SUCCESS, executed,
-                   protocol_of)
+                   protocol_of, refused_answer)
 from texts import Answered
 
 # The word of the flags of a command, and its first reserved bit.
@@ -51,11 +51,19 @@ def own_rule(frame, due, seen):
     return next((rule for rule, fits in rules.items() if fits), None)
 
 
-def findings_of(board, states, entry):
-    """What may be found of an entry that no history has, by the states before it."""
+def dues_of(board, guesses, entry):
+    """The answers that a command may have got, but that of hardware that refuses."""
+    agent = entry.agent
+    answers = {guess.commands[agent - 1].answer or executed(board, guess.state, agent, entry.frame).answer
+               for guess in guesses}
+    return answers - {refused_answer(entry.frame)}
+
+
+def findings_of(board, guesses, entry):
+    """What may be found of an entry that no history has, by the guesses before it."""
     if not isinstance(entry, Answered):
         return {"differs"}
-    dues = {executed(board, state, entry.agent, entry.frame).answer for state in states}
+    dues = dues_of(board, guesses, entry)
     rules = {own_rule(entry.frame, due, entry.answer) for due in dues}
     return {f"own {rule}" if rule else "differs" for rule in rules}
 
@@ -70,12 +78,12 @@ def wanted_of(board, entries, refuses):
 
 
 def states_before(case, line):
-    """How many states are reached before the entry at a line; None if there are too many."""
+    """How many states are reached before the first entry from a line on; None if there are too many."""
     judge = Judge(case.board, case.refuses)
     try:
         for entry in case.entries:
             judge.see(entry)
-            if entry.line == line:
+            if entry.line >= line:
                 return len(judge.before)
     except TooMany:
         return None

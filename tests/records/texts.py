@@ -9,18 +9,20 @@ HEADER_BYTES = 28
 
 
 class Answered(NamedTuple):
-    """An agent got an answer to a frame."""
+    """An agent got an answer to a frame; and what was posted after the entry before, as agents with their frames."""
     line: int
     agent: int
     frame: tuple
     answer: tuple
+    posted: tuple
 
 
 class Delivered(NamedTuple):
-    """An agent took a message of the platform."""
+    """An agent took a message of the platform; and what was posted after the entry before, as in Answered."""
     line: int
     agent: int
     message: tuple
+    posted: tuple
 
 
 # Boards
@@ -169,7 +171,7 @@ def answer_of(word, numbers):
 
 def read_record(text):
     """The entries of a record: each answer with its frame, and each message, but of protocols that are not checked."""
-    tokens, waiting, entries = Tokens(), {}, []
+    tokens, waiting, posted, entries = Tokens(), {}, (), []
     for number, line in enumerate(text.splitlines(), 1):
         items = line.split()
         if not items or items[0].startswith("#"):
@@ -177,14 +179,16 @@ def read_record(text):
         if items[0] in ("do", "raw", "bad"):
             agent, *numbers = (int(item, 0) for item in items[1:])
             waiting[agent] = frame_of(items[0], agent, numbers, tokens)
+            posted += ((agent, waiting[agent]),) * (protocol_of(header_in(waiting[agent])) in PROTOCOLS)
             continue
         agent, numbers = int(items[0]), [int(item, 0) for item in items[2:]]
         if items[1] == "p2a":
-            entry = Delivered(number, agent, (numbers[0], tuple(numbers[1:])))
+            entry = Delivered(number, agent, (numbers[0], tuple(numbers[1:])), posted)
         else:
-            entry = Answered(number, agent, waiting.pop(agent), answer_of(items[1], numbers))
+            entry = Answered(number, agent, waiting.pop(agent), answer_of(items[1], numbers), posted)
         if protocol_of(entry.message[0] if items[1] == "p2a" else header_in(entry.frame)) in PROTOCOLS:
             entries.append(entry)
+            posted = ()
     return entries
 
 
