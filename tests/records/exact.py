@@ -132,16 +132,17 @@ class Judge:
         """The guesses after an entry, from one before it."""
         return self.after_answer(guess, entry) if isinstance(entry, Answered) else self.after_message(guess, entry)
 
-    def ask(self, agent, frame):
-        """Goes on to the guesses after an agent has posted a frame."""
-        self.guesses = {with_command(guess, agent, Command(frame), guess.state) for guess in self.guesses}
+    def asked(self, entry):
+        """The guesses once the commands are posted that an entry has before it."""
+        guesses = self.guesses
+        for agent, frame in entry.posted:
+            guesses = {with_command(guess, agent, Command(frame), guess.state) for guess in guesses}
+        return guesses
 
     def see(self, entry):
         """Goes on to the guesses after an entry; there is none if no history is left."""
-        for agent, frame in entry.posted:
-            self.ask(agent, frame)
         # A command that is executed directly before the line of its answer may as well be at that line.
-        self.before = self.reached(self.guesses, entry.agent if isinstance(entry, Answered) else None)
+        self.before = self.reached(self.asked(entry), entry.agent if isinstance(entry, Answered) else None)
         self.guesses = {after for guess in self.before for after in self.fitting(guess, entry)}
         return bool(self.guesses)
 

@@ -77,14 +77,19 @@ def wanted_of(board, entries, refuses):
     return ALL_SAME
 
 
+def is_prompt(entry):
+    """Whether an entry is an answer with no line between its command and it."""
+    return isinstance(entry, Answered) and entry.posted[-1:] == ((entry.agent, entry.frame),)
+
+
 def states_before(case, line):
     """How many states are reached before the first entry from a line on; None if there are too many."""
     judge = Judge(case.board, case.refuses)
     try:
         for entry in case.entries:
-            judge.see(entry)
             if entry.line >= line:
-                return len(judge.before)
+                return len(judge.reached(judge.asked(entry), entry.agent if is_prompt(entry) else None))
+            judge.see(entry)
     except TooMany:
         return None
 
