@@ -92,9 +92,13 @@ fn chart_of(
     let core = Core::new(alloc, plan);
     let lines: Vec<&[u8]> = text.split(|byte| *byte == b'\n').collect(alloc)?;
     let mut recorder = Recorder::new(alloc, board, &core)?;
+    let mut number = 0usize;
     for placed in &record.entries {
-        let line = text_at(&lines, placed.line);
-        draw(&mut recorder, &core, line, placed)?;
+        number = number.saturating_add(1);
+        if has_answer(&record.entries, number, &placed.entry) {
+            let line = text_at(&lines, placed.line);
+            draw(&mut recorder, &core, line, placed)?;
+        }
     }
     recorder.finish(title_of(alloc, board)?, subtitle_of(alloc, record)?)
 }
@@ -127,6 +131,23 @@ fn subtitle_of(alloc: Global, record: &Record) -> Result<Vec<u8>, AllocError> {
         )?
     };
     Ok(text.into_bytes())
+}
+
+/// Whether an entry is no command, or one that has its answer behind the first entries, which are so
+/// many.
+fn has_answer(entries: &[Placed], first: usize, entry: &Entry) -> bool {
+    let Entry::Asked { place, .. } = entry else {
+        return true;
+    };
+    let asked = *place;
+    for placed in entries.iter().skip(first) {
+        match &placed.entry {
+            Entry::Replied { place, .. } if *place == asked => return true,
+            Entry::GivenUp { place } if *place == asked => return false,
+            _ => {}
+        }
+    }
+    false
 }
 
 /// Whether an entry is a command with its answer, or a message.
