@@ -2,7 +2,7 @@
 use Rattle.std.proofs.Common.{◌≡◌, ◌≢◌, ◌⊎◌, inl, inr, ◌==◌, ℕ, zero, suc, ◌+◌, ◌-◌, ◌<◌, ◌≤◌, Bool, true, false, List, [], ◌∷◌, ◌++◌, length, slice_get, get_or, Option, Some, None, refl, sym, ap, ◌∙◌, subst, arith, if◌then◌else◌}
 use Rattle.std.specs.Prelude.{set}
 use Rattle.std.specs.Option.{option_to_list}
-use Rattle.std.proofs.lemmas.List.{append-nil, append_cancel_left, get_or-set_same, get_or-set_other, length-append}
+use Rattle.std.proofs.lemmas.List.{append-nil, append_cancel_left, ext_get_or, get_or-set_same, get_or-set_other, length-append}
 use Rattle.std.proofs.lemmas.Bool.{eq-eqb, eqb-false, eqb-true, ne_eqb}
 use Rattle.scmi_plan.specs.Agent.{IsAgent}
 use Rattle.scmi_plan.specs.Board.{Board}
@@ -436,34 +436,7 @@ guess-start may board g same stands none free =
       places = ap length free;
     }
 
--- eight items are the items at eight places
-pub eight : {X : Type 0} (xs : List X) (d : X) → length xs ≡ 8
-    → xs ≡ get_or xs 0 d ∷ get_or xs 1 d ∷ get_or xs 2 d ∷ get_or xs 3 d ∷ get_or xs 4 d ∷ get_or xs 5 d ∷ get_or xs 6 d ∷ get_or xs 7 d ∷ []
-eight (a ∷ b ∷ c ∷ e ∷ f ∷ g ∷ h ∷ i ∷ []) d is = refl
-eight [] d is = absurd (omega (arith, is))
-eight (a ∷ []) d is = absurd (omega (arith, is))
-eight (a ∷ b ∷ []) d is = absurd (omega (arith, is))
-eight (a ∷ b ∷ c ∷ []) d is = absurd (omega (arith, is))
-eight (a ∷ b ∷ c ∷ e ∷ []) d is = absurd (omega (arith, is))
-eight (a ∷ b ∷ c ∷ e ∷ f ∷ []) d is = absurd (omega (arith, is))
-eight (a ∷ b ∷ c ∷ e ∷ f ∷ g ∷ []) d is = absurd (omega (arith, is))
-eight (a ∷ b ∷ c ∷ e ∷ f ∷ g ∷ h ∷ []) d is = absurd (omega (arith, is))
-eight (a ∷ b ∷ c ∷ e ∷ f ∷ g ∷ h ∷ i ∷ j ∷ more) d is = absurd (omega (arith, is))
-
--- and are those that stand there
-pub eight-are : {X : Type 0} (xs : List X) (r0 r1 r2 r3 r4 r5 r6 r7 : X) → length xs ≡ 8 → r0 ≡ get_or xs 0 r0 → r1 ≡ get_or xs 1 r1 → r2 ≡ get_or xs 2 r2 → r3 ≡ get_or xs 3 r3
-    → r4 ≡ get_or xs 4 r4 → r5 ≡ get_or xs 5 r5 → r6 ≡ get_or xs 6 r6 → r7 ≡ get_or xs 7 r7 → r0 ∷ r1 ∷ r2 ∷ r3 ∷ r4 ∷ r5 ∷ r6 ∷ r7 ∷ [] ≡ xs
-eight-are {X = X} xs r0 r1 r2 r3 r4 r5 r6 r7 is e0 e1 e2 e3 e4 e5 e6 e7 =
-    by xs is e0 e1 e2 e3 e4 e5 e6 e7 where
-      by : (xs : List X) → length xs ≡ 8 → r0 ≡ get_or xs 0 r0 → r1 ≡ get_or xs 1 r1 → r2 ≡ get_or xs 2 r2 → r3 ≡ get_or xs 3 r3
-          → r4 ≡ get_or xs 4 r4 → r5 ≡ get_or xs 5 r5 → r6 ≡ get_or xs 6 r6 → r7 ≡ get_or xs 7 r7 → r0 ∷ r1 ∷ r2 ∷ r3 ∷ r4 ∷ r5 ∷ r6 ∷ r7 ∷ [] ≡ xs
-      by (a ∷ b ∷ c ∷ e ∷ f ∷ g ∷ h ∷ i ∷ []) is e0 e1 e2 e3 e4 e5 e6 e7 = cc
-      by [] is e0 e1 e2 e3 e4 e5 e6 e7 = absurd (omega (arith, is))
-      by (a ∷ []) is e0 e1 e2 e3 e4 e5 e6 e7 = absurd (omega (arith, is))
-      by (a ∷ b ∷ []) is e0 e1 e2 e3 e4 e5 e6 e7 = absurd (omega (arith, is))
-      by (a ∷ b ∷ c ∷ []) is e0 e1 e2 e3 e4 e5 e6 e7 = absurd (omega (arith, is))
-      by (a ∷ b ∷ c ∷ e ∷ []) is e0 e1 e2 e3 e4 e5 e6 e7 = absurd (omega (arith, is))
-      by (a ∷ b ∷ c ∷ e ∷ f ∷ []) is e0 e1 e2 e3 e4 e5 e6 e7 = absurd (omega (arith, is))
-      by (a ∷ b ∷ c ∷ e ∷ f ∷ g ∷ []) is e0 e1 e2 e3 e4 e5 e6 e7 = absurd (omega (arith, is))
-      by (a ∷ b ∷ c ∷ e ∷ f ∷ g ∷ h ∷ []) is e0 e1 e2 e3 e4 e5 e6 e7 = absurd (omega (arith, is))
-      by (a ∷ b ∷ c ∷ e ∷ f ∷ g ∷ h ∷ i ∷ j ∷ more) is e0 e1 e2 e3 e4 e5 e6 e7 = absurd (omega (arith, is))
+-- eight items are the same as eight others if they are at each place
+pub eight-same : {X : Type 0} (xs ys : List (Option X)) (n : ℕ) → length xs ≡ 8 → length ys ≡ 8 → 8 ≤ n
+    → ((k : ℕ) → k < n → get_or xs k None ≡ get_or ys k None) → xs ≡ ys
+eight-same xs ys n first second all same = ext_get_or None xs ys (first ∙ sym second) (λ k less. same k (omega (arith, less, first, all)))

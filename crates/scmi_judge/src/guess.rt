@@ -56,8 +56,8 @@ impl Guess {
         ensures { self.new ≡ other.now }
     {
         self.platform.copy_from(&other.platform);
-        self.posted = copy_all(&other.posted);
-        self.outstanding = copy_commands(&other.outstanding);
+        copy_all(&mut self.posted, &other.posted);
+        copy_commands(&mut self.outstanding, &other.outstanding);
     }
 
     /// Whether another guess of this board is the same.
@@ -304,54 +304,49 @@ impl Guess {
     }
 }
 
-/// The same commands again.
+/// Become the same commands as others. Only those that are there are copied.
 fn copy_commands(
-    commands: &[Option<Outstanding>; OUTSTANDING],
-) -> [Option<Outstanding>; OUTSTANDING]
-    ensures { result ≡ commands.now }
+    commands: &mut [Option<Outstanding>; OUTSTANDING],
+    others: &[Option<Outstanding>; OUTSTANDING],
+)
+    ensures { commands.new ≡ others.now }
 {
-    [
-        copy_command(&commands[0]),
-        copy_command(&commands[1]),
-        copy_command(&commands[2]),
-        copy_command(&commands[3]),
-        copy_command(&commands[4]),
-        copy_command(&commands[5]),
-        copy_command(&commands[6]),
-        copy_command(&commands[7]),
-    ]
-}
-
-fn copy_command(command: &Option<Outstanding>) -> Option<Outstanding>
-    ensures { result ≡ command.now }
-{
-    match command {
-        Some(command) => Some(command.copy()),
-        None => None,
+    'places: for place in 0..OUTSTANDING {
+        copy_command(&mut commands[place], &others[place]);
     }
 }
 
-/// The same messages again.
-fn copy_all(posted: &[Option<Message>; AGENTS]) -> [Option<Message>; AGENTS]
-    ensures { result ≡ posted.now }
+fn copy_command(command: &mut Option<Outstanding>, other: &Option<Outstanding>)
+    ensures { command.new ≡ other.now }
 {
-    [
-        copy_of(&posted[0]),
-        copy_of(&posted[1]),
-        copy_of(&posted[2]),
-        copy_of(&posted[3]),
-        copy_of(&posted[4]),
-        copy_of(&posted[5]),
-        copy_of(&posted[6]),
-        copy_of(&posted[7]),
-    ]
+    match other {
+        Some(other) => *command = Some(other.copy()),
+        None => {
+            if command.is_some() {
+                *command = None;
+            }
+        }
+    }
 }
 
-fn copy_of(posted: &Option<Message>) -> Option<Message>
-    ensures { result ≡ posted.now }
+/// Become the same messages as others. Only those that are there are copied.
+fn copy_all(posted: &mut [Option<Message>; AGENTS], others: &[Option<Message>; AGENTS])
+    ensures { posted.new ≡ others.now }
 {
-    match posted {
-        Some(message) => Some(message.copy()),
-        None => None,
+    'agents: for agent in 0..AGENTS {
+        copy_of(&mut posted[agent], &others[agent]);
+    }
+}
+
+fn copy_of(posted: &mut Option<Message>, other: &Option<Message>)
+    ensures { posted.new ≡ other.now }
+{
+    match other {
+        Some(other) => *posted = Some(other.copy()),
+        None => {
+            if posted.is_some() {
+                *posted = None;
+            }
+        }
     }
 }
