@@ -117,7 +117,7 @@ fn subtitle_of(alloc: Global, record: &Record) -> Result<Vec<u8>, AllocError> {
     let drawn = record
         .entries
         .iter()
-        .filter(|placed| is_drawn_whole(&placed.entry))
+        .filter(|placed| placed.entry.is_from_platform())
         .count();
     let ending = if drawn == 1 { "y" } else { "ies" };
     let noted = record.left.notes.len();
@@ -148,11 +148,6 @@ fn has_answer(entries: &[Placed], first: usize, entry: &Entry) -> bool {
         }
     }
     false
-}
-
-/// Whether an entry is a command with its answer, or a message.
-fn is_drawn_whole(entry: &Entry) -> bool {
-    !matches!(entry, Entry::Asked { .. } | Entry::GivenUp { .. })
 }
 
 /// Draws an entry, whose answer or message is in this line, or whose command, if that is answered

@@ -1,12 +1,12 @@
 -- What is found of a record once no line is left.
-use Rattle.std.proofs.Common.{◌≡◌, ◌==◌, ◌∙◌, ◌<◌, ◌+◌, true, false, List, ◌++◌, length, Result, Ok, sym, ap, subst, arith}
-use Rattle.std.proofs.lemmas.Bool.Decides.{nat_tests}
-use Rattle.std.specs.List.{All}
+use Rattle.std.proofs.Common.{◌≡◌, ◌∙◌, ◌<◌, ◌+◌, Bool, true, false, List, ◌++◌, length, Result, Ok, refl, sym, ap, subst}
+use Rattle.std.specs.List.{All, list_any}
+use Rattle.std.specs.Prelude.{not}
 use Rattle.scmi_plan.specs.Board.{Board}
 use Rattle.scmi_judge.specs.Guesses.{AreMany}
 use Rattle.scmi_judge.specs.declared.unseen.Unseen.{Unseen}
 use Rattle.scmi_check.specs.Check.{IsFoundOf}
-use Rattle.scmi_check.specs.Judged.{AreJudged, DoesFit, behind, line_at}
+use Rattle.scmi_check.specs.Judged.{AreJudged, DoesFit, behind, line_at, shows_platform}
 use Rattle.scmi_check.specs.LeftOut.{LeftView, with_notes}
 use Rattle.scmi_check.specs.RecordText.{RecordView, Shows, finished, shows_of}
 use Rattle.scmi_check.specs.UnderWay.{IsUnderWay}
@@ -22,11 +22,13 @@ use Rattle.scmi_check.proofs.Onto.{finished-onto}
 pub same-ok : {T E : Type 0} (a b : T) → ◌≡◌ {A = Result T E} (Ok a) (Ok b) → a ≡ b
 same-ok a b same = cc
 
-some-entries : (xs : List Placed) → (length xs == 0) ≡ false → 0 < length xs
-some-entries xs none = grind (arith, nat_tests)
+is-so : (b : Bool) → not b ≡ false → b ≡ true
+is-so true is = refl
+is-so false is = absurd cc
 
-no-entries : (xs : List Placed) → (length xs == 0) ≡ true → length xs ≡ 0
-no-entries xs none = grind (arith, nat_tests)
+is-not : (b : Bool) → not b ≡ true → b ≡ false
+is-not false is = refl
+is-not true is = absurd cc
 
 module _ (may : Unseen) (board : Board) (all : Shows) (judged : List Judged)
     (notes : List Note) (c : Check) (way : IsUnderWay may board all judged notes c) where
@@ -52,8 +54,8 @@ module _ (may : Unseen) (board : Board) (all : Shows) (judged : List Judged)
   all-found left checked is skipped protocols differs unsure empty =
       let being = way.judging in
       record {
-        some = subst (λ (es : List Placed). 0 < length es) (sym entries-are)
-            (some-entries way.placed (sym being.empty_is ∙ empty));
+        some = ap (list_any shows_platform) entries-are
+            ∙ is-so (list_any shows_platform way.placed) (sym being.empty_is ∙ empty);
         are = subst (λ (es : List Placed). AreJudged may board es judged)
             (sym entries-are) being.are;
         many = subst (λ (es : List Placed). length judged < length es → All DoesFit judged
@@ -74,6 +76,7 @@ module _ (may : Unseen) (board : Board) (all : Shows) (judged : List Judged)
         differs_is = differs ∙ being.differs_is;
       }
 
-  pub none-found : c.progress.is_empty ≡ true → length (finished all).entries ≡ 0
-  none-found empty = ap (λ (es : List Placed). length es) entries-are
-      ∙ no-entries way.placed (sym way.judging.empty_is ∙ empty)
+  pub none-found : c.progress.is_empty ≡ true
+      → list_any shows_platform (finished all).entries ≡ false
+  none-found empty = ap (list_any shows_platform) entries-are
+      ∙ is-not (list_any shows_platform way.placed) (sym way.judging.empty_is ∙ empty)

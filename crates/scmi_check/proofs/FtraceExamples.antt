@@ -52,7 +52,7 @@ two_commands = refl
 -- events are lost, twice: the command before them has no answer, and the response after them answers no command
 lost_events : record_left PROTOCOLS 1 (whole (codes "scmi_msg_dump: pt=10 t=CMND msg_id=00 seq=0001 s=0 pyld=\nCPU:1 [LOST 12 EVENTS]\nCPU:0 [LOST EVENTS]\nscmi_msg_dump: pt=10 t=RESP msg_id=00 seq=0001 s=0 pyld=00000200\n"))
     ≡ Ok (record {
-      entries = [];
+      entries = at 1 (Asked 0 1 (command 0x10 1 0 [])) ∷ at 1 (GivenUp 0) ∷ [];
       left = with_notes (noted 1 Unanswered ∷ noted 2 (Lost (Events 12)) ∷ noted 3 (Lost Unknown) ∷ noted 4 Unmatched ∷ []);
     })
 unfolding after_each_line cpu_left decode_pairs event_header event_payload event_traced lines_behind lines_of number_of shown_at signed_word stamp_left taken_with with_asked with_given_up with_line with_shown
@@ -70,8 +70,8 @@ early_response = refl
 -- a token that another command of the agent has again: the first one is given up, and another agent's waits
 token_again : record_left PROTOCOLS 2 (whole (codes "scmi_msg_dump: id=1 pt=10 t=CMND msg_id=01 seq=0001 s=0 pyld=\nscmi_msg_dump: pt=10 t=CMND msg_id=00 seq=0001 s=0 pyld=\nscmi_msg_dump: pt=10 t=CMND msg_id=01 seq=0001 s=0 pyld=\nscmi_msg_dump: pt=10 t=RESP msg_id=01 seq=0001 s=0 pyld=03020000\n"))
     ≡ Ok (record {
-      entries = at 2 (Asked 0 1 (command 0x10 1 0 [])) ∷ at 2 (GivenUp 0) ∷ at 1 (Asked 0 2 (command 0x10 1 1 []))
-          ∷ at 4 (Answered 1 (command 0x10 1 1 []) (Reply (raw_with 0x44001 (0 ∷ 0x203 ∷ [])))) ∷ [];
+      entries = at 2 (Asked 0 1 (command 0x10 1 0 [])) ∷ at 1 (Asked 1 2 (command 0x10 1 1 []))
+          ∷ at 2 (GivenUp 0) ∷ at 4 (Answered 1 (command 0x10 1 1 []) (Reply (raw_with 0x44001 (0 ∷ 0x203 ∷ [])))) ∷ [];
       left = with_notes (noted 2 Unanswered ∷ noted 1 Unanswered ∷ []);
     })
 unfolding after_each_line cpu_left decode_pairs event_header event_payload event_traced lines_behind lines_of shown_at signed_word stamp_left taken_with with_asked with_given_up with_line with_shown

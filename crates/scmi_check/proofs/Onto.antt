@@ -16,7 +16,7 @@ use Rattle.scmi_judge.specs.declared.entry.Entry.TheVariants.{Answered, Asked, D
 use Rattle.scmi_text.specs.declared.step.Call.{Call}
 use Rattle.scmi_check.specs.Asking.{AskingView, is_free, is_to_ask, place_of_line, with_all_asked, with_all_given_up, with_asked, with_free, with_given_up, with_one, with_place, without_answer}
 use Rattle.scmi_check.specs.LeftOut.{LeftView, is_judged, with_left, with_no_answer, with_no_answers, with_note, with_notes, with_skipped, frame_protocol}
-use Rattle.scmi_check.specs.RecordText.{Shows, command_taken, entry_protocol, finished, is_by, is_early, answered_at, asking_of, none_early, onto, ready, taken_with, token_free, token_taken, with_answer, with_answered, with_asking, with_called, with_entry, with_entry_of, with_judged, with_line, with_lost, with_posted, with_response, with_shown, with_trace, with_traced, with_unmatched}
+use Rattle.scmi_check.specs.RecordText.{Shows, command_taken, entry_protocol, finished, given_up, all_given_up, is_by, is_early, answered_at, asking_of, none_early, onto, ready, taken_with, token_free, token_taken, with_answer, with_answered, with_asking, with_called, with_entry, with_entry_of, with_judged, with_line, with_lost, with_posted, with_response, with_shown, with_trace, with_traced, with_unmatched}
 use Rattle.scmi_check.specs.Shown.{shown_at}
 use Rattle.scmi_check.specs.declared.lost.Lost.{Lost as LostEvents}
 use Rattle.scmi_check.specs.declared.note.Note.{Note}
@@ -91,31 +91,30 @@ module _ (placed : List Placed) (notes : List Note) where
   without-onto asking line None = refl
   without-onto asking line (Some k) = ap (λ (a : AskingView). with_free a k) (one-onto asking line (GivenUp k))
 
-  given-up-onto : (judged : List ℕ) (asking : AskingView) (command : Waiting) → with_given_up judged (behind asking) command ≡ behind (with_given_up judged asking command)
+  given-up-onto : (asking : AskingView) (command : Waiting)
+      → with_given_up (behind asking) command ≡ behind (with_given_up asking command)
   unfolding with_given_up
-  given-up-onto judged asking command =
-      ap (λ (a : AskingView). without_answer a command.line (place_of_line a command.line)) (asked-onto judged asking command)
-      ∙ without-onto (with_asked judged asking command) command.line (place_of_line (with_asked judged asking command) command.line)
+  given-up-onto asking command =
+      without-onto asking command.line (place_of_line asking command.line)
 
-  all-given-up-onto : (judged : List ℕ) (asking : AskingView) (commands : List Waiting)
-      → with_all_given_up judged (behind asking) commands ≡ behind (with_all_given_up judged asking commands)
-  all-given-up-onto judged asking [] = refl
-  all-given-up-onto judged asking (command ∷ commands) =
-      ap (λ (a : AskingView). with_all_given_up judged a commands) (given-up-onto judged asking command)
-      ∙ all-given-up-onto judged (with_given_up judged asking command) commands
+  all-given-up-onto : (asking : AskingView) (commands : List Waiting)
+      → with_all_given_up (behind asking) commands ≡ behind (with_all_given_up asking commands)
+  all-given-up-onto asking [] = refl
+  all-given-up-onto asking (command ∷ commands) =
+      ap (λ (a : AskingView). with_all_given_up a commands) (given-up-onto asking command)
+      ∙ all-given-up-onto (with_given_up asking command) commands
 
   ready-onto : (shows : Shows) → ready (at shows) ≡ behind (ready shows)
   ready-onto shows =
-      ap (λ (a : AskingView). with_all_asked shows.judged (with_all_asked shows.judged a shows.waiting) shows.traced)
-      (all-given-up-onto shows.judged (asking_of shows) shows.given_up)
-      ∙ ap (λ (a : AskingView). with_all_asked shows.judged a shows.traced)
-      (all-asked-onto shows.judged (with_all_given_up shows.judged (asking_of shows) shows.given_up) shows.waiting)
-      ∙ all-asked-onto shows.judged (with_all_asked shows.judged (with_all_given_up shows.judged (asking_of shows) shows.given_up) shows.waiting) shows.traced
+      ap (λ (a : AskingView). with_all_asked shows.judged a shows.traced)
+      (all-asked-onto shows.judged (asking_of shows) shows.waiting)
+      ∙ all-asked-onto shows.judged
+      (with_all_asked shows.judged (asking_of shows) shows.waiting) shows.traced
 
   judged-onto : (shows : Shows) (line : ℕ) (entry : Entry)
       → with_judged (at shows) line entry ≡ at (with_judged shows line entry)
   judged-onto shows line entry =
-      ap (λ (a : AskingView). with_asking (record (at shows) { given_up = [] }) a)
+      ap (λ (a : AskingView). with_asking (at shows) a)
       (ap (λ (a : AskingView). with_one a line entry) (ready-onto shows) ∙ one-onto (ready shows) line entry)
 
   entry-of-onto : (protocol : Option ℕ) (shows : Shows) (line : ℕ) (entry : Entry)
@@ -213,29 +212,43 @@ module _ (placed : List Placed) (notes : List Note) where
     by None = refl
     by (Some t) = ap (λ (s : Shows). Some s) (answered-onto (record shows { waiting = t.1 }) line t.0 answer)
 
+  given-onto : (shows : Shows) (command : Waiting)
+      → given_up (at shows) command ≡ at (given_up shows command)
+  given-onto shows command =
+      let asked = with_asking shows (with_asked shows.judged (asking_of shows) command) in
+      ap (λ (a : AskingView). with_asking (at shows) (with_given_up
+      (ready (with_asking (at shows) a)) command))
+      (asked-onto shows.judged (asking_of shows) command)
+      ∙ ap (λ (a : AskingView). with_asking (at shows) (with_given_up a command))
+      (ready-onto asked)
+      ∙ ap (λ (a : AskingView). with_asking (at shows) a) (given-up-onto (ready asked) command)
+
   free-onto : (shows : Shows) (a token : ℕ) → token_free (at shows) a token ≡ at
       (token_free shows a token)
   free-onto shows a token = by (taken_with shows.traced a token) where
     by : (taken : Option (Waiting × List Waiting))
         → elim taken [
           | None ↦ at shows
-          | Some t ↦ record (at shows) {
+          | Some t ↦ given_up (record (at shows) {
             traced = t.1;
-            given_up = shows.given_up ++ t.0 ∷ [];
             left = with_no_answer shows.judged (later shows.left) t.0;
-          }
+          }) t.0
         ]
         ≡ at (elim taken [
           | None ↦ shows
-          | Some t ↦ record shows {
+          | Some t ↦ given_up (record shows {
             traced = t.1;
-            given_up = shows.given_up ++ t.0 ∷ [];
             left = with_no_answer shows.judged shows.left t.0;
-          }
+          }) t.0
         ])
     by None = refl
-    by (Some t) = ap (λ (l : LeftView). with-left-out (record shows { traced = t.1; given_up = shows.given_up ++ t.0 ∷ [] }) l)
+    by (Some t) =
+        ap (λ (l : LeftView). given_up (with-left-out (record shows { traced = t.1 }) l) t.0)
         (left-onto shows.judged shows.left (frame_protocol t.0.frame) _)
+        ∙ given-onto (record shows {
+          traced = t.1;
+          left = with_no_answer shows.judged shows.left t.0;
+        }) t.0
 
   traced-onto : (shows : Shows) (line a : ℕ) (message : Message)
       → with_traced (at shows) line a message ≡ at (with_traced shows line a message)
@@ -277,10 +290,22 @@ module _ (placed : List Placed) (notes : List Note) where
     }) line message.header.protocol
     by (Some t) = answered-onto (record shows { traced = t.1 }) line t.0 (Reply message)
 
+  all-given-onto : (shows : Shows) → all_given_up (at shows) ≡ at (all_given_up shows)
+  all-given-onto shows =
+      ap (λ (a : AskingView). record (with_asking (at shows)
+      (with_all_given_up a shows.traced)) { traced = [] }) (ready-onto shows)
+      ∙ ap (λ (a : AskingView). record (with_asking (at shows) a) { traced = [] })
+      (all-given-up-onto (ready shows) shows.traced)
+
   lost-onto : (shows : Shows) (line : ℕ) (lost : LostEvents)
       → with_lost (at shows) line lost ≡ at (with_lost shows line lost)
   lost-onto shows line lost =
-      ap (λ (l : LeftView). with-left-out (record shows { traced = []; given_up = shows.given_up ++ shows.traced; early = None }) l)
+      ap (λ (s : Shows). record s {
+        left = with_note (with_no_answers shows.judged (later shows.left) shows.traced)
+            (record { line = line; kind = Lost lost });
+        early = None;
+      }) (all-given-onto shows)
+      ∙ ap (λ (l : LeftView). record (at (all_given_up shows)) { left = l; early = None })
       (ap (λ (l : LeftView). with_note l (record { line = line; kind = Lost lost }))
       (no-answers-onto shows.judged shows.left shows.traced)
       ∙ note-onto (with_no_answers shows.judged shows.left shows.traced)

@@ -1,11 +1,10 @@
 -- How far the entries of a record are judged, one entry after the other.
-use Rattle.std.proofs.Common.{◌≡◌, ◌==◌, ◌||◌, ℕ, suc, zero, ◌+◌, ◌<◌, ◌≤◌, ◌∙◌, Bool, true, false, List, [], ◌∷◌, ◌++◌, length, get_or, Option, None, Some, refl, sym, ap, subst, arith}
+use Rattle.std.proofs.Common.{◌≡◌, ◌||◌, ℕ, suc, zero, ◌+◌, ◌<◌, ◌≤◌, ◌∙◌, Bool, true, false, List, [], ◌∷◌, ◌++◌, length, get_or, Option, None, Some, refl, sym, ap, subst, arith}
 use Rattle.std.specs.List.{All, list_any}
 use Rattle.std.specs.Option.{option_map}
-use Rattle.std.specs.Prelude.{slice_get}
+use Rattle.std.specs.Prelude.{◌&&◌, not, slice_get}
 use Rattle.std.proofs.Math.Seq.{get_or-append_seam}
 use Rattle.std.proofs.Math.ListN.{get_or-append}
-use Rattle.std.proofs.lemmas.Bool.Decides.{nat_tests}
 use Rattle.std.proofs.lemmas.List.{length-append, take-append-le}
 use Rattle.std.proofs.lemmas.List.Elements.{All-pop}
 use Rattle.std.proofs.lemmas.List.Folds.{list_any-append}
@@ -18,7 +17,7 @@ use Rattle.scmi_judge.specs.declared.entry.Entry.{Entry}
 use Rattle.scmi_judge.specs.declared.unseen.Unseen.{Unseen}
 use Rattle.scmi_judge.specs.declared.verdict.Verdict.{Verdict}
 use Rattle.scmi_check.specs.Finding.{Fits, finding_of, judged_as}
-use Rattle.scmi_check.specs.Judged.{AreJudged, DoesFit, behind, does_differ, line_at}
+use Rattle.scmi_check.specs.Judged.{AreJudged, DoesFit, behind, does_differ, line_at, shows_platform}
 use Rattle.scmi_check.specs.Progress.{AreBeingJudged}
 use Rattle.scmi_check.specs.declared.check.TheConstants.{PLACES}
 use Rattle.scmi_check.specs.declared.judged.Judged.{Judged}
@@ -65,8 +64,17 @@ line-last xs one =
 line-past : (xs : List Placed) (k : ℕ) → length xs ≤ k → line_at xs k ≡ None
 line-past xs k past = ap (option_map (λ (x : Placed). x.line)) (slice_get_past xs k past)
 
-not-empty : (xs : List Placed) (one : Placed) → false ≡ (length (xs ++ one ∷ []) == 0)
-not-empty xs one = let more = length-append xs (one ∷ []) in grind (arith, nat_tests)
+-- whether no entry is of the platform, with one more
+still-empty : (xs : List Placed) (one : Placed) (old new : Bool)
+    → old ≡ not (list_any shows_platform xs) → new ≡ old && not (shows_platform one)
+    → new ≡ not (list_any shows_platform (xs ++ one ∷ []))
+still-empty xs one old new before is = is ∙ ap (λ (b : Bool). b && not (shows_platform one)) before
+    ∙ neither (list_any shows_platform xs) (shows_platform one)
+    ∙ sym (ap not (list_any-append shows_platform xs (one ∷ []))) where
+      neither : (a b : Bool) → (not a) && (not b) ≡ not (a || (b || false))
+      neither true b = refl
+      neither false true = refl
+      neither false false = refl
 
 -- no entry
 pub being-none : (may : Unseen) (board : Board) (p : Progress) → Knows p.judge []
@@ -101,7 +109,8 @@ module _ (may : Unseen) (board : Board) (placed : List Placed) (judged : List Ju
 
     -- an entry behind one that is not judged
     pub passed-over : (line : ℕ) → old.unsure ≡ Some line → new.judge ≡ old.judge
-        → new.unsure ≡ old.unsure → new.differs ≡ old.differs → new.is_empty ≡ false
+        → new.unsure ≡ old.unsure → new.differs ≡ old.differs
+        → new.is_empty ≡ old.is_empty && not (shows_platform one)
         → AreBeingJudged may board (placed ++ one ∷ []) judged new
     passed-over line is judge-is unsure-is differs-is empty-is =
         let at : line_at placed (length judged) ≡ Some line = sym being.unsure_is ∙ is in
@@ -115,7 +124,7 @@ module _ (may : Unseen) (board : Board) (placed : List Placed) (judged : List Ju
           many = λ _ all. being.many less all;
           unsure_is = unsure-is ∙ is ∙ sym (line-left placed (one ∷ []) (length judged) line at);
           differs_is = differs-is ∙ being.differs_is;
-          empty_is = empty-is ∙ not-empty placed one;
+          empty_is = still-empty placed one old.is_empty new.is_empty being.empty_is empty-is;
         }
 
     -- all entries before are judged
@@ -128,7 +137,8 @@ module _ (may : Unseen) (board : Board) (placed : List Placed) (judged : List Ju
       pub now-unsure : ((entries : List Entry) → Knows old.judge entries
           → AreTooMany old.judge entries) → new.judge.board ≡ old.judge.board
           → new.judge.unseen ≡ old.judge.unseen → new.unsure ≡ Some one.line
-          → new.differs ≡ old.differs → new.is_empty ≡ false
+          → new.differs ≡ old.differs
+          → new.is_empty ≡ old.is_empty && not (shows_platform one)
           → AreBeingJudged may board (placed ++ one ∷ []) judged new
       now-unsure many board-is unseen-is unsure-is differs-is empty-is =
           record {
@@ -151,7 +161,7 @@ module _ (may : Unseen) (board : Board) (placed : List Placed) (judged : List Ju
             unsure_is = unsure-is ∙ sym (ap (line_at (placed ++ one ∷ [])) same-length
                 ∙ line-last placed one);
             differs_is = differs-is ∙ being.differs_is;
-            empty_is = empty-is ∙ not-empty placed one;
+            empty_is = still-empty placed one old.is_empty new.is_empty being.empty_is empty-is;
           }
 
       -- an entry with this verdict
@@ -192,7 +202,8 @@ module _ (may : Unseen) (board : Board) (placed : List Placed) (judged : List Ju
             being.board_is (differs (behind judged) (being.knows sure all) away))
 
         pub now-judged : new.unsure ≡ None → new.differs ≡ list_any does_differ judged || does_differ
-            (record { line = one.line; entry = one.entry; verdict = v }) → new.is_empty ≡ false
+            (record { line = one.line; entry = one.entry; verdict = v })
+            → new.is_empty ≡ old.is_empty && not (shows_platform one)
             → AreBeingJudged may board (placed ++ one ∷ [])
             (judged ++ record { line = one.line; entry = one.entry; verdict = v } ∷ []) new
         now-judged unsure-is differs-is empty-is =
@@ -217,7 +228,7 @@ module _ (may : Unseen) (board : Board) (placed : List Placed) (judged : List Ju
                   (omega (arith, more-judged, more-placed, same)));
               differs_is = differs-is ∙ or-last (list_any does_differ judged) (does_differ next)
                   ∙ sym (list_any-append does_differ judged (next ∷ []));
-              empty_is = empty-is ∙ not-empty placed one;
+              empty_is = still-empty placed one old.is_empty new.is_empty being.empty_is empty-is;
             } where
               or-last : (a b : Bool) → a || b ≡ a || (b || false)
               or-last true b = refl

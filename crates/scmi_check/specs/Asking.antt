@@ -79,11 +79,12 @@ without_answer asking line None = asking
 without_answer asking line (Some place) = with_free (with_one asking line (GivenUp place)) place
 
 -- a command to which no answer comes: it was executed before this, or never
-unfoldable pub with_given_up : List ℕ → AskingView → Waiting → AskingView
-with_given_up judged asking command =
-    without_answer (with_asked judged asking command) command.line (place_of_line (with_asked judged asking command) command.line)
+unfoldable pub with_given_up : AskingView → Waiting → AskingView
+with_given_up asking command =
+    without_answer asking command.line (place_of_line asking command.line)
 
 -- the same of each of these commands, in order
-abbrev pub with_all_given_up : List ℕ → AskingView → List Waiting → AskingView
-with_all_given_up judged asking [] = asking
-with_all_given_up judged asking (command ∷ commands) = with_all_given_up judged (with_given_up judged asking command) commands
+abbrev pub with_all_given_up : AskingView → List Waiting → AskingView
+with_all_given_up asking [] = asking
+with_all_given_up asking (command ∷ commands) =
+    with_all_given_up (with_given_up asking command) commands

@@ -1,5 +1,5 @@
 -- A check of a record, from the bytes that are read to the status.
-use Rattle.std.specs.Prelude.{◌≡◌, ◌⊎◌, ℕ, ◌+◌, ◌<◌, ◌++◌, [], ◌∷◌, ⊤, List, length, Option, IfSome, Some, Ok, Err}
+use Rattle.std.specs.Prelude.{◌≡◌, ◌⊎◌, ℕ, ◌+◌, ◌<◌, ◌++◌, [], ◌∷◌, ⊤, true, false, List, length, Option, IfSome, Some, Ok, Err}
 use Rattle.std.specs.Io.KnownBytes.{Appends}
 use Rattle.std.specs.List.{All, list_any}
 use Rattle.scmi_board.specs.BoardLines.{Described}
@@ -16,7 +16,7 @@ use Rattle.scmi_judge.specs.declared.unseen.Unseen.{Unseen}
 use Rattle.scmi_text.specs.TextLines.{after_each_line}
 use Rattle.scmi_check.specs.CheckError.{fault_status, fault_text}
 use Rattle.scmi_check.specs.Checked.{status_by}
-use Rattle.scmi_check.specs.Judged.{AreJudged, DoesFit, behind, does_differ, line_at}
+use Rattle.scmi_check.specs.Judged.{AreJudged, DoesFit, behind, does_differ, line_at, shows_platform}
 use Rattle.scmi_check.specs.Listener.{Grows}
 use Rattle.scmi_check.specs.RecordText.{AreMeant, RecordView, Shows, nothing_shown, record_of, with_line}
 use Rattle.scmi_check.specs.declared.check_error.CheckError.{CheckError}
@@ -41,13 +41,13 @@ IsRecordText Means judged board text read =
     (givens : List Line) × AreMeant Means (lines_left (whole text)) givens
     × (record_of judged (length board.agents) givens ≡ Ok read)
 
--- this is found of a record of a platform of a board. At least one entry is to be judged: of those
+-- this is found of a record of a platform of a board. At least one answer or message is to be judged: of the entries
 -- that are judged, however many are taken from the first on, none differs if and only if they have
 -- a legal history. If not all are judged, and none of these differs, then there are more platforms
 -- than are kept, no two the same, each of which may be behind these
 pub record IsFoundOf (may : Unseen) (board : Board) (read : RecordView) (judged : List Judged)
     (notes : List Note) (checked : Checked) : Type 0 where
-  pub some : 0 < length read.entries
+  pub some : list_any shows_platform read.entries ≡ true
   pub are : AreJudged may board read.entries judged
   pub many : length judged < length read.entries → All DoesFit judged
       → AreMany may board (behind judged) (2 + PLACES)
@@ -56,9 +56,9 @@ pub record IsFoundOf (may : Unseen) (board : Board) (read : RecordView) (judged 
   pub unsure_is : checked.unsure ≡ line_at read.entries (length judged)
   pub differs_is : checked.differs ≡ list_any does_differ judged
 
--- nothing is found of a record without an entry, or memory or the output is refused
+-- nothing is found of a record without an answer and a message, or memory or the output is refused
 abbrev pub IsEndWithout : RecordView → CheckError → Type 0
-IsEndWithout read Empty = length read.entries ≡ 0
+IsEndWithout read Empty = list_any shows_platform read.entries ≡ false
 IsEndWithout read Memory = ⊤
 IsEndWithout read Write = ⊤
 IsEndWithout read _ = ⊥
@@ -121,7 +121,8 @@ IsFaultOfBoard text _ = ⊥
 -- a text encodes a record of which nothing is judged
 abbrev pub IsNothingJudged : (List ℕ → List ℕ → Type 0) → List ℕ → Board → List ℕ → Type 0
 IsNothingJudged Means judged board text = (read : RecordView)
-    × IsRecordText Means judged board text read × (length read.entries ≡ 0)
+    × IsRecordText Means judged board text read
+    × (list_any shows_platform read.entries ≡ false)
 
 -- the first lines of a text encode a record up to the last of them, which can't be there
 abbrev pub IsWrongAt : (List ℕ → List ℕ → Type 0) → List ℕ → Board → List ℕ → ℕ → Type 0

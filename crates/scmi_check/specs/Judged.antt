@@ -4,6 +4,7 @@ use Rattle.std.specs.List.{All}
 use Rattle.std.specs.Option.{option_map}
 use Rattle.scmi_plan.specs.Board.{Board}
 use Rattle.scmi_judge.specs.Behind.{IsRight}
+use Rattle.scmi_judge.specs.Shown.{is_from_platform}
 use Rattle.scmi_judge.specs.declared.entry.Entry.{Entry}
 use Rattle.scmi_judge.specs.declared.unseen.Unseen.{Unseen}
 use Rattle.scmi_check.specs.Finding.{Fits, finding_of, is_difference, judged_as}
@@ -37,6 +38,10 @@ pub record AreJudged (may : Unseen) (board : Board) (placed : List Placed) (judg
   pub few : length judged ≤ length placed
   pub first : map placed_of judged ≡ take (length judged) placed
   pub right : (count : ℕ) → count ≤ length judged → All DoesFit (take count judged) ↔ IsRight may board (map meant (take count judged))
+
+-- the platform gave what an entry of a record shows
+abbrev pub shows_platform : Placed → Bool
+shows_platform one = is_from_platform one.entry
 
 -- the line of an entry of a record, by its place
 abbrev pub line_at : List Placed → ℕ → Option ℕ

@@ -1,11 +1,11 @@
 -- How far the entries of a record are judged.
-use Rattle.std.specs.Prelude.{◌≡◌, ◌==◌, ◌+◌, ◌<◌, ◌++◌, Bool, List, length, Option, None}
+use Rattle.std.specs.Prelude.{◌≡◌, ◌+◌, ◌<◌, ◌++◌, not, Bool, List, length, Option, None}
 use Rattle.std.specs.List.{All, list_any}
 use Rattle.scmi_plan.specs.Board.{Board}
 use Rattle.scmi_judge.specs.Guesses.{AreMany}
 use Rattle.scmi_judge.specs.Judging.{Knows}
 use Rattle.scmi_judge.specs.declared.unseen.Unseen.{Unseen}
-use Rattle.scmi_check.specs.Judged.{AreJudged, DoesFit, behind, does_differ, line_at}
+use Rattle.scmi_check.specs.Judged.{AreJudged, DoesFit, behind, does_differ, line_at, shows_platform}
 use Rattle.scmi_check.specs.Listener.{Grows}
 use Rattle.scmi_check.specs.declared.check.TheConstants.{PLACES}
 use Rattle.scmi_check.specs.declared.judged.Judged.{Judged}
@@ -26,12 +26,13 @@ pub record AreBeingJudged (may : Unseen) (board : Board) (placed : List Placed)
       → AreMany may board (behind judged) (2 + PLACES)
   pub unsure_is : p.unsure ≡ line_at placed (length judged)
   pub differs_is : p.differs ≡ list_any does_differ judged
-  pub empty_is : p.is_empty ≡ (length placed == 0)
+  pub empty_is : p.is_empty ≡ not (list_any shows_platform placed)
 
--- how far they are judged at an entry, and whether there was none before it
+-- how far they are judged at an entry, and whether none before it was of the platform
 abbrev pub at_entry : Progress → Bool → Progress
 at_entry p empty = record {
   judge = p.judge;
+  lines = p.lines;
   is_empty = empty;
   differs = p.differs;
   unsure = p.unsure;

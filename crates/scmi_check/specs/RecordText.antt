@@ -13,7 +13,7 @@ use Rattle.scmi_plan.specs.declared.limits.TheConstants.{AGENTS}
 use Rattle.scmi_judge.specs.declared.entry.Entry.{Entry}
 use Rattle.scmi_judge.specs.declared.entry.Entry.TheVariants.{Answered, Asked, Delivered, GivenUp, Replied}
 use Rattle.scmi_text.specs.TextLines.{after_each_line}
-use Rattle.scmi_check.specs.Asking.{AskingView, asking_view, nothing_asked, place_of_line, with_all_asked, with_all_given_up, with_free, with_one}
+use Rattle.scmi_check.specs.Asking.{AskingView, asking_view, nothing_asked, place_of_line, with_all_asked, with_all_given_up, with_asked, with_free, with_given_up, with_one}
 use Rattle.scmi_text.specs.declared.step.Call.{Call}
 use Rattle.scmi_check.specs.LeftOut.{LeftView, frame_protocol, is_judged, left_view, nothing_left, with_left, with_no_answer, with_no_answers, with_note, with_notes, with_skipped}
 use Rattle.scmi_check.specs.Shown.{shown_at}
@@ -37,7 +37,7 @@ pub record RecordView : Type 0 where
 abbrev pub record_view : Record → RecordView
 record_view read = record { entries = read.entries.items; left = left_view read.left }
 
--- what lines show: entries at their lines, the line of the command at each place, what is not judged, the protocols that are judged, the commands whose answers are still to come, in order, and those of traces, those to which no answer comes, and of which no entry shows that yet, the last response of a trace that answers no command, if no command of a trace is behind it, and the next token of each agent
+-- what lines show: entries at their lines, the line of the command at each place, what is not judged, the protocols that are judged, the commands whose answers are still to come, in order, and those of traces, the last response of a trace that answers no command, if no command of a trace is behind it, and the next token of each agent
 pub record Shows : Type 0 where
   pub entries : List Placed
   pub asked : List (Option ℕ)
@@ -45,7 +45,6 @@ pub record Shows : Type 0 where
   pub judged : List ℕ
   pub waiting : List Waiting
   pub traced : List Waiting
-  pub given_up : List Waiting
   pub early : Option Early
   pub tokens : List ℕ
 
@@ -59,7 +58,6 @@ shows_of so_far =
       judged = so_far.judged.now;
       waiting = so_far.waiting.items;
       traced = so_far.traced.items;
-      given_up = so_far.given_up.items;
       early = so_far.early;
       tokens = so_far.tokens;
     }
@@ -85,7 +83,6 @@ nothing_shown judged =
       judged = judged;
       waiting = [];
       traced = [];
-      given_up = [];
       early = None;
       tokens = replicate AGENTS 0;
     }
@@ -106,15 +103,14 @@ asking_of shows = record { entries = shows.entries; asked = shows.asked }
 abbrev pub with_asking : Shows → AskingView → Shows
 with_asking shows asking = record shows { entries = asking.entries; asked = asking.asked }
 
--- before another entry: no answer comes to the commands that were given up, and those that wait are answered later
+-- before another entry: the commands that wait are answered later
 abbrev pub ready : Shows → AskingView
-ready shows =
-    with_all_asked shows.judged
-    (with_all_asked shows.judged (with_all_given_up shows.judged (asking_of shows) shows.given_up) shows.waiting) shows.traced
+ready shows = with_all_asked shows.judged
+    (with_all_asked shows.judged (asking_of shows) shows.waiting) shows.traced
 
 -- one entry more, at the line of this number
 abbrev pub with_judged : Shows → ℕ → Entry → Shows
-with_judged shows line entry = with_asking (record shows { given_up = [] }) (with_one (ready shows) line entry)
+with_judged shows line entry = with_asking shows (with_one (ready shows) line entry)
 
 -- the same of an entry of this protocol: it is skipped unless the protocol is judged
 abbrev pub with_entry_of : Option ℕ → Shows → ℕ → Entry → Shows
@@ -184,15 +180,21 @@ is_early (Some response) a token = response.agent == a && response.token == toke
 abbrev pub with_trace : Shows → ℕ → ℕ → Frame → Shows
 with_trace shows line a frame = record shows { traced = shows.traced ++ record { line = line; agent = a; frame = frame } ∷ [] }
 
+-- what lines show once no answer comes to a command that waited: it and those that still wait are
+-- asked before this
+abbrev pub given_up : Shows → Waiting → Shows
+given_up shows command =
+    let asked = with_asking shows (with_asked shows.judged (asking_of shows) command) in
+    with_asking shows (with_given_up (ready asked) command)
+
 -- a token is free again in a trace: the command of the agent that has it gets no answer
 abbrev pub token_free : Shows → ℕ → ℕ → Shows
 token_free shows a token = elim (taken_with shows.traced a token) [
   | None ↦ shows
-  | Some taken ↦ record shows {
+  | Some taken ↦ given_up (record shows {
     traced = taken.1;
-    given_up = shows.given_up ++ taken.0 ∷ [];
     left = with_no_answer shows.judged shows.left taken.0;
-  }
+  }) taken.0
 ]
 
 -- no response is early any more
@@ -230,21 +232,18 @@ with_response shows line a message = elim (taken_with shows.traced a message.hea
   | Some taken ↦ with_answered (record shows { traced = taken.1 }) line taken.0 (Reply message)
 ]
 
--- no answer comes to a command
-abbrev pub given_up : Shows → Waiting → Shows
-given_up shows command = record shows { given_up = shows.given_up ++ command ∷ [] }
-
 -- no answers come to the commands of a trace that wait
 abbrev pub all_given_up : Shows → Shows
-all_given_up shows = record shows { traced = []; given_up = shows.given_up ++ shows.traced }
+all_given_up shows = record (with_asking shows (with_all_given_up (ready shows) shows.traced)) {
+  traced = [];
+}
 
 -- events of a trace are lost: the commands of it that wait get no answer
 abbrev pub with_lost : Shows → ℕ → LostEvents → Shows
 with_lost shows line lost =
-    record shows {
-      left = with_note (with_no_answers shows.judged shows.left shows.traced) (record { line = line; kind = Lost lost });
-      traced = [];
-      given_up = shows.given_up ++ shows.traced;
+    record (all_given_up shows) {
+      left = with_note (with_no_answers shows.judged shows.left shows.traced)
+          (record { line = line; kind = Lost lost });
       early = None;
     }
 

@@ -70,13 +70,13 @@ impl Asking {
     }
 
     /// No answers come to these commands.
-    pub fn give_up_all(&mut self, judged: &[u8], commands: &[Waiting]) -> Result<(), AllocError>
+    pub fn give_up_all(&mut self, commands: &[Waiting]) -> Result<(), AllocError>
         ensures { OnOk result (asking_view self.new
-            ≡ with_all_given_up judged.now (asking_view self.old) commands.now) }
+            ≡ with_all_given_up (asking_view self.old) commands.now) }
     {
         let mut rest = commands;
         'commands: while let [command, others @ ..] = rest {
-            self.give_up(judged, command)?;
+            self.give_up(command)?;
             rest = others;
         }
         Ok(())
@@ -84,7 +84,7 @@ impl Asking {
 
     /// A command is answered later, unless it was asked before, or is not judged.
     #[tactic(auto, unfolding(crate::specs::Asking::with_asked))]
-    fn ask(&mut self, judged: &[u8], command: &Waiting) -> Result<(), AllocError>
+    pub fn ask(&mut self, judged: &[u8], command: &Waiting) -> Result<(), AllocError>
         ensures { OnOk result (asking_view self.new
             ≡ with_asked judged.now (asking_view self.old) command.now) }
     {
@@ -130,11 +130,10 @@ impl Asking {
 
     /// No answer comes to a command.
     #[tactic(auto, unfolding(crate::specs::Asking::with_given_up))]
-    fn give_up(&mut self, judged: &[u8], command: &Waiting) -> Result<(), AllocError>
+    pub fn give_up(&mut self, command: &Waiting) -> Result<(), AllocError>
         ensures { OnOk result (asking_view self.new
-            ≡ with_given_up judged.now (asking_view self.old) command.now) }
+            ≡ with_given_up (asking_view self.old) command.now) }
     {
-        self.ask(judged, command)?;
         let Some(place) = self.place_of(command.line) else {
             return Ok(());
         };

@@ -78,16 +78,16 @@ fn write_reasons<W: Write>(writer: &mut W, one: &Judged) -> io::Result<()> {
     }
 }
 
-/// Writes the check that decides, and the lines that the difference may follow from.
+/// Writes the check that decides, the line that set the thing, and the one that would explain it.
 fn write_help<W: Write>(writer: &mut W, help: &Help) -> io::Result<()> {
     if let Some(word) = help.by {
         write!(writer, ",\"by\":\"{word}\"")?;
     }
-    if let Some(line) = help.origin.set {
+    if let Some(line) = help.set {
         write!(writer, ",\"set\":{line}")?;
     }
-    if let Some(line) = help.origin.after {
-        write!(writer, ",\"after\":{line}")?;
+    if let Some(line) = help.unless {
+        write!(writer, ",\"unless\":{line}")?;
     }
     Ok(())
 }

@@ -21,7 +21,7 @@ impl Listener for Keeper {
 
     fn at_line(&mut self, _text: &[u8]) {}
 
-    fn found(&mut self, one: &Judged) -> Result<(), CheckError> {
+    fn found(&mut self, one: &Judged, _unless: Option<u32>) -> Result<(), CheckError> {
         match self.judged.push(one.copy()) {
             Ok(()) => Ok(()),
             Err(_) => Err(CheckError::Memory),

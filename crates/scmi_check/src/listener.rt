@@ -23,9 +23,10 @@ pub trait Listener {
         ensures judged { judged self.new ≡ judged self.old }
         ensures noted { noted self.new ≡ noted self.old };
 
-    /// The next entry, with the verdict on it. `Write` if the output fails, `Memory` if out of
-    /// memory.
-    fn found(&mut self, one: &Judged) -> Result<(), CheckError>
+    /// The next entry, with the verdict on it. If it differs, but would not if one of the last entries
+    /// had been another, `unless` is the line of the last such one. `Write` if the output fails,
+    /// `Memory` if out of memory.
+    fn found(&mut self, one: &Judged, unless: Option<u32>) -> Result<(), CheckError>
         ensures judged { OnOk result (Grows (judged self.old) (judged self.new) (one.now ∷ [])) }
         ensures noted { OnOk result (noted self.new ≡ noted self.old) }
         ensures errors { IfErr result IsRefused };

@@ -1,7 +1,8 @@
 //! The entries of a record, judged as they are read.
-ghost use Rattle.std.specs.Prelude.{◌≡◌, ◌+◌, ◌++◌, ◌∷◌, ◌||◌, [], Bool, false, List, None, length, OnOk, IfErr};
+ghost use Rattle.std.specs.Prelude.{◌≡◌, ◌+◌, ◌++◌, ◌∷◌, ◌||◌, ◌&&◌, not, [], Bool, List, None, length, OnOk, IfErr};
 ghost use Rattle.scmi_plan.specs.Board.{Board};
 ghost use Rattle.scmi_judge.specs.Judging.{Knows};
+ghost use Rattle.scmi_judge.specs.Shown.{is_from_platform};
 ghost use Rattle.scmi_judge.specs.declared.unseen.Unseen.{Unseen};
 ghost use Rattle.scmi_check.specs.CheckError.{IsRefused};
 ghost use Rattle.scmi_check.specs.Progress.{AreBeingJudged, FindsMore, at_entry};
@@ -11,15 +12,18 @@ ghost use Rattle.scmi_check.specs.declared.placed.Placed.{Placed as Entries};
 
 use crate::check_error::CheckError;
 use crate::judged::{Judged, judge_one};
+use crate::last_lines::LastLines;
 use crate::listener::Listener;
 use crate::placed::Placed;
-use scmi_judge::Judge;
+use scmi_judge::{Entry, Judge};
 
 /// How far the entries of a record are judged.
 #[derive(Debug, Drop)]
 pub(crate) struct Progress {
     judge: Judge,
-    // Whether there was no entry.
+    // The lines to which the judge may look back.
+    lines: LastLines,
+    // Whether no entry was of the platform.
     pub is_empty: bool,
     // Whether one that was judged differs, but by a rule of the profile's own.
     pub differs: bool,
@@ -38,6 +42,7 @@ impl Progress {
     {
         Progress {
             judge,
+            lines: LastLines::new(),
             is_empty: true,
             differs: false,
             unsure: None,
@@ -73,7 +78,7 @@ impl Progress {
         ensures noted { OnOk result (L.noted listener.new ≡ L.noted listener.old) }
         ensures errors { IfErr result IsRefused }
     {
-        self.is_empty = false;
+        self.is_empty = is_still_empty(self.is_empty, &one.entry);
         match self.unsure {
             Some(_line) => Ok(()),
             None => self.judge_next(one, listener),
@@ -82,10 +87,10 @@ impl Progress {
 
     /// The same, while all before it were judged.
     fn judge_next<L: Listener>(&mut self, one: &Placed, listener: &mut L) -> Result<(), CheckError>
-        requires some { self.old.is_empty ≡ false }
         requires sure { self.old.unsure ≡ None }
         ensures judged { (may : Unseen) (board : Board) (before : List Entries)
             (judged : List Verdicts) (empty : Bool)
+            → self.old.is_empty ≡ empty && not (is_from_platform one.now.entry)
             → AreBeingJudged may board before judged (at_entry self.old empty)
             → OnOk result (FindsMore may board (before ++ one.now ∷ []) judged self.new
             (L.judged listener.old) (L.judged listener.new)) }
@@ -104,8 +109,16 @@ impl Progress {
         let differs = judged.differs();
         let any = either(self.differs, differs);
         self.differs = any;
-        listener.found(&judged)
+        let unless = self.lines.note(one.line, differs, self.judge.explained());
+        listener.found(&judged, unless)
     }
+}
+
+/// Whether no entry was of the platform, with one more.
+fn is_still_empty(empty: bool, entry: &Entry) -> bool
+    ensures { result ≡ empty && not (is_from_platform entry.now) }
+{
+    empty && !entry.is_from_platform()
 }
 
 fn either(one: bool, other: bool) -> bool

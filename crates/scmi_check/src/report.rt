@@ -9,10 +9,10 @@ use crate::finding::Finding;
 use crate::help::Help;
 use crate::json::{write_json_counts, write_json_entry, write_json_note, write_json_unsure};
 use crate::judged::Judged;
+use crate::last_sets::LastSets;
 use crate::listener::Listener;
 use crate::note::{Note, NoteKind};
 use crate::note_text::{write_left, write_note, write_unsure};
-use crate::origins::Origins;
 use crate::reasons::write_reasons;
 use crate::style::Style;
 use crate::trace_time::{TraceTime, time_in, write_time};
@@ -22,8 +22,8 @@ use std::io::Write;
 
 /// Writes what is found of a record as it comes: a line for each entry, and one for each note of
 /// what is not judged (own). The line of an entry that differs ends with the check that decides, if
-/// an error was due, with the lines of earlier entries that it may follow from, and with its time, if
-/// it is an event of a trace.
+/// an error was due, with the line that set what it is about, with that of an entry that would explain
+/// it, if it had been another, and with its time, if it is an event of a trace.
 #[derive(Drop)]
 pub struct Report<'a, W: Write> {
     writer: &'a mut W,
@@ -31,7 +31,7 @@ pub struct Report<'a, W: Write> {
     // Which changes the hardware may have refused.
     refusals: Refusals,
     counts: Counts,
-    origins: Origins,
+    sets: LastSets,
     // When that was of which the line tells, if it is one of a trace.
     time: Option<TraceTime>,
 }
@@ -43,13 +43,13 @@ impl<'a, W: Write> Report<'a, W> {
         ensures unwritten { result.writer.now ≡ writer.old }
     {
         let counts = Counts::new();
-        let origins = Origins::new();
+        let sets = LastSets::new();
         Report {
             writer,
             style,
             refusals,
             counts,
-            origins,
+            sets,
             time: None,
         }
     }
@@ -63,7 +63,7 @@ impl<'a, W: Write> Report<'a, W> {
             style,
             refusals: _,
             counts,
-            origins: _,
+            sets: _,
             time: _,
         } = self;
         if style == Style::Json {
@@ -81,10 +81,10 @@ impl<'a, W: Write> Report<'a, W> {
     }
 
     /// Writes an entry, and notes it for those that come.
-    fn write_entry(&mut self, one: &Judged) -> io::Result<()> {
+    fn write_entry(&mut self, one: &Judged, unless: Option<u32>) -> io::Result<()> {
         let finding = one.finding();
-        let help = Help::with(one, self.refusals, &self.origins);
-        self.origins.add(one, finding);
+        let help = Help::with(one, self.refusals, &self.sets, unless);
+        self.sets.add(one);
         self.counts.add(finding);
         match self.style {
             Style::Json => write_json_entry(self.writer, one, finding, &help, self.time),
@@ -119,12 +119,12 @@ impl<W: Write> Listener for Report<'_, W> {
         self.time = time_in(text);
     }
 
-    fn found(&mut self, one: &Judged) -> Result<(), CheckError> {
+    fn found(&mut self, one: &Judged, unless: Option<u32>) -> Result<(), CheckError> {
         // A command that is answered later has its line with its answer.
-        if one.finding() == Finding::Same && is_without_answer(&one.entry) {
+        if one.finding() == Finding::Same && !one.entry.is_from_platform() {
             return Ok(());
         }
-        match self.write_entry(one) {
+        match self.write_entry(one, unless) {
             Ok(()) => Ok(()),
             Err(_) => Err(CheckError::Write),
         }
@@ -136,11 +136,6 @@ impl<W: Write> Listener for Report<'_, W> {
             Err(_) => Err(CheckError::Write),
         }
     }
-}
-
-/// Whether an entry is a command that is answered later, or never.
-fn is_without_answer(entry: &Entry) -> bool {
-    matches!(entry, Entry::Asked { .. } | Entry::GivenUp { .. })
 }
 
 fn write_line<W: Write>(
@@ -173,11 +168,11 @@ fn write_difference<W: Write>(writer: &mut W, one: &Judged, help: &Help) -> io::
     if let Some(word) = help.by {
         write!(writer, " by {word}")?;
     }
-    if let Some(line) = help.origin.set {
+    if let Some(line) = help.set {
         write!(writer, " set {line}")?;
     }
-    if let Some(line) = help.origin.after {
-        write!(writer, " after {line}")?;
+    if let Some(line) = help.unless {
+        write!(writer, " unless {line}")?;
     }
     Ok(())
 }

@@ -31,8 +31,6 @@ pub(crate) struct SoFar<'a> {
     // The commands whose answers are still to come, in order, and those of traces.
     waiting: Vec<Waiting>,
     traced: Vec<Waiting>,
-    // Commands to which no answer comes, and of which no entry shows that yet.
-    given_up: Vec<Waiting>,
     // The last response of a trace that answers no command, until another command of a trace.
     early: Option<Early>,
     // The next token of each agent, from agent 1 on.
@@ -50,7 +48,6 @@ impl<'a> SoFar<'a> {
             judged,
             waiting: Vec::new(alloc),
             traced: Vec::new(alloc),
-            given_up: Vec::new(alloc),
             early: None,
             tokens: [0; AGENTS],
         }
@@ -107,7 +104,6 @@ impl<'a> SoFar<'a> {
             judged,
             waiting,
             traced,
-            given_up: _,
             early: _,
             tokens: _,
         } = self;
@@ -195,7 +191,7 @@ impl<'a> SoFar<'a> {
         match take_with(&mut self.traced, agent, token) {
             Some(command) => {
                 self.left.add_command(self.judged, &command)?;
-                self.give_up(command)
+                self.give_up(&command)
             }
             None => Ok(()),
         }
@@ -288,21 +284,20 @@ impl<'a> SoFar<'a> {
         ensures { GivesUnless (λ _. shows_of self.new) result
             (Some (all_given_up (shows_of self.old))) }
     {
-        'each: while !self.traced.is_empty() {
-            let command = self.traced.remove(0);
-            self.give_up(command)?;
-        }
+        self.get_ready()?;
+        self.asking.give_up_all(&self.traced)?;
+        self.traced.clear();
         Ok(())
     }
 
-    /// No answer comes to a command.
-    fn give_up(&mut self, command: Waiting) -> Result<(), LineError>
+    /// No answer comes to a command that waited.
+    fn give_up(&mut self, command: &Waiting) -> Result<(), LineError>
         ensures { GivesUnless (λ _. shows_of self.new) result
-            (Some (given_up (shows_of self.old) command)) }
+            (Some (given_up (shows_of self.old) command.now)) }
     {
-        let Ok(()) = self.given_up.push(command) else {
-            return Err(LineError::Memory);
-        };
+        self.asking.ask(self.judged, command)?;
+        self.get_ready()?;
+        self.asking.give_up(command)?;
         Ok(())
     }
 
@@ -329,18 +324,15 @@ impl<'a> SoFar<'a> {
             return Ok(());
         }
         self.get_ready()?;
-        self.given_up.clear();
         self.asking.push(line, entry)?;
         Ok(())
     }
 
-    /// Before another entry: no answer comes to the commands that were given up, and those that wait
-    /// are answered later.
+    /// Before another entry: the commands that wait are answered later.
     fn get_ready(&mut self) -> Result<(), LineError>
         ensures { GivesUnless (λ _. shows_of self.new) result
             (Some (with_asking (shows_of self.old) (ready (shows_of self.old)))) }
     {
-        self.asking.give_up_all(self.judged, &self.given_up)?;
         self.asking.ask_all(self.judged, &self.waiting)?;
         self.asking.ask_all(self.judged, &self.traced)?;
         Ok(())

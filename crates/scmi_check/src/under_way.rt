@@ -133,7 +133,7 @@ impl<'a> Check<'a> {
         Ok(())
     }
 
-    /// What is found once no line is left. `Empty` if there was no entry.
+    /// What is found once no line is left. `Empty` if there was no answer and no message.
     pub fn finish<L: Listener>(self, listener: &mut L) -> Result<Checked, CheckError>
         ensures found { (may : Unseen) (board : Board) (all : Shows)
             (judged : List Verdicts) (notes : List Notes)

@@ -3,9 +3,12 @@ use Rattle.std.proofs.Common.{◌≡◌, ℕ, ◌<◌, Bool, true, false, List, 
 use Rattle.std.proofs.lemmas.List.Elements.{All-get_or, All-pop, All-push}
 use Rattle.scmi_plan.specs.Board.{Board}
 use Rattle.scmi_judge.specs.Exact.{IsOfBoard}
-use Rattle.scmi_judge.specs.Guesses.{AreOfBoard, KeepBoard}
+use Rattle.scmi_judge.specs.Guesses.{AreOfBoard, HaveBoard, KeepBoard}
+use Rattle.scmi_judge.specs.Judging.{IsReady}
+use Rattle.scmi_judge.specs.Window.{IsOfWindow}
 use Rattle.scmi_judge.specs.declared.guess.Guess.{Guess}
 use Rattle.scmi_judge.specs.declared.guesses.Guesses.{Guesses}
+use Rattle.scmi_judge.specs.declared.window.Window.{Window}
 
 pub of-popped : (board : Board) (xs ys : List Guess) (g : Guess) → xs ≡ ys ++ g ∷ [] → IsOfBoard board xs → IsOfBoard board ys × (g.platform.board ≡ board)
 of-popped board xs ys g are of = All-pop (λ (x : Guess). x.platform.board ≡ board) xs ys (Some g) are of
@@ -39,4 +42,18 @@ keep-made old new g copy made one same is keeps =
             made = is ∙ ap (λ (x : Guess). x.platform.board) same ∙ of-their old g one board of;
           });
       unseen = keeps.unseen;
+    }
+
+-- a judge is ready with guesses that stay of their board, and with a window of it
+pub still-ready : (sure : Bool) (old new : Guesses) (w : Window) → HaveBoard old
+    → KeepBoard old new → IsOfWindow old.made.platform.board w
+    → (sure ≡ true → new.tried.items ≡ []) → (sure ≡ true → new.others.items ≡ [])
+    → IsReady sure new w
+still-ready sure old new w have keeps of tried others =
+    let now = keeps.boards have.0 have.1 in
+    record {
+      boards = (have.0, now);
+      window = subst (λ board. IsOfWindow board w) (have.1.made ∙ sym now.made) of;
+      tried = tried;
+      others = others;
     }

@@ -8,3 +8,4 @@ pub mod Moves
 pub mod Same
 pub mod Shown
 pub mod Unseen
+pub mod Window

@@ -14,7 +14,15 @@ use Rattle.scmi_codec.specs.declared.frame.Answer.TheVariants.{Reply, Released, 
 use Rattle.scmi_codec.specs.declared.power_command.PowerCommand.TheVariants as power
 use Rattle.scmi_codec.specs.declared.status.Status.{Status}
 use Rattle.scmi_judge.specs.declared.entry.Entry.{Entry}
-use Rattle.scmi_judge.specs.declared.entry.Entry.TheVariants.{Answered, Delivered}
+use Rattle.scmi_judge.specs.declared.entry.Entry.TheVariants.{Answered, Asked, Delivered, GivenUp, Replied}
+
+-- the platform gave what an entry shows: an answer or a message
+abbrev pub is_from_platform : Entry → Bool
+is_from_platform (Answered a frame answer) = true
+is_from_platform (Delivered a message) = true
+is_from_platform (Asked place a frame) = false
+is_from_platform (Replied place a frame answer) = true
+is_from_platform (GivenUp place) = false
 
 -- the frame of an entry, if it is a command of agent a with its answer
 abbrev pub frame_shown : ℕ → Entry → Option Frame

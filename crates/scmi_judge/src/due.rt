@@ -42,7 +42,8 @@ impl Guesses {
             }
         }
         match entry {
-            Entry::Delivered { agent, .. } if self.made.has_agent(*agent) => Verdict::NoMessage,
+            Entry::Delivered { agent, .. } if self.made.get().has_agent(*agent) =>
+                Verdict::NoMessage,
             _ => Verdict::NoAgent,
         }
     }
@@ -51,7 +52,7 @@ impl Guesses {
 impl Guess {
     /// The answer or the message that it may give in place of that of an entry. It may be any of
     /// its board then.
-    fn due(&mut self, entry: &Entry) -> Option<Verdict>
+    pub fn due(&mut self, entry: &Entry) -> Option<Verdict>
         ensures differs { IfSome result (λ due. due ≢ Same) }
         ensures board { self.new.platform.board ≡ self.old.platform.board }
     {

@@ -1,5 +1,6 @@
 //! What a record shows.
 ghost use Rattle.std.specs.Prelude.{◌≡◌};
+ghost use Rattle.scmi_judge.specs.Shown.{is_from_platform};
 
 use scmi_codec::{Answer, Frame, Message};
 
@@ -39,6 +40,16 @@ pub enum Entry {
 }
 
 impl Entry {
+    /// Whether the platform gave what the entry shows: an answer or a message.
+    pub fn is_from_platform(&self) -> bool
+        ensures { result ≡ is_from_platform self.now }
+    {
+        match self {
+            Entry::Answered { .. } | Entry::Delivered { .. } | Entry::Replied { .. } => true,
+            Entry::Asked { .. } | Entry::GivenUp { .. } => false,
+        }
+    }
+
     /// The same entry again. It takes no memory.
     pub fn copy(&self) -> Entry
         ensures { result ≡ self.now }

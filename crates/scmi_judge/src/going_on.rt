@@ -8,6 +8,7 @@ ghost use Rattle.scmi_judge.specs.Guesses.{AreOfBoard, HaveBoard, KeepBoard, all
 use crate::entry::Entry;
 use crate::guess::Guess;
 use crate::guesses::{Guesses, has};
+use crate::place::Place;
 use crate::shown::{has_succeeded, set_shown};
 use crate::stop::Stop;
 use scmi_codec::{Answer, Frame, Message};
@@ -55,7 +56,7 @@ impl Guesses {
     }
 
     /// Leaves what one of the others may be after the entry, if more may go on.
-    fn go_on_from(&mut self, guess: &Guess, entry: &Entry) -> Result<(), Stop>
+    fn go_on_from(&mut self, guess: &Place, entry: &Entry) -> Result<(), Stop>
         requires boards { (board : Board) × AreOfBoard board self.old
             × (guess.now.platform.board ≡ board) }
         ensures keeps { KeepBoard self.old self.new }
@@ -76,7 +77,7 @@ impl Guesses {
     }
 
     /// The guess that was made is left, if it may go on and a place is free for another.
-    fn keep_new(&mut self) -> Result<(), Stop>
+    pub fn keep_new(&mut self) -> Result<(), Stop>
         requires boards { HaveBoard self.old }
         ensures keeps { KeepBoard self.old self.new }
         ensures tried { self.new.tried ≡ self.old.tried }
@@ -91,7 +92,7 @@ impl Guesses {
     }
 
     /// A guess is left, if it may go on, or else its place is free.
-    fn put(&mut self, guess: Guess) -> Result<(), Stop>
+    fn put(&mut self, guess: Place) -> Result<(), Stop>
         requires boards { (board : Board) × AreOfBoard board self.old
             × (guess.platform.board ≡ board) }
         ensures keeps { KeepBoard self.old self.new }
@@ -112,7 +113,7 @@ impl Guesses {
     }
 
     /// Whether a guess may go on: fewer are left than may, and it is not left yet.
-    fn may_go_on(&self, guess: &Guess) -> bool
+    fn may_go_on(&self, guess: &Place) -> bool
         requires boards { IsOfBoard guess.now.platform.board self.now.left.items }
     {
         self.left.len() < GOING_ON && !has(&self.left, guess)
@@ -122,7 +123,7 @@ impl Guesses {
 impl Guess {
     /// Executes the command of an entry, or takes the message that was due in place of that of the
     /// entry.
-    fn pass(&mut self, entry: &Entry)
+    pub fn pass(&mut self, entry: &Entry)
         ensures { self.new.platform.board ≡ self.old.platform.board }
     {
         match entry {
@@ -144,7 +145,7 @@ impl Guess {
     }
 
     /// The place of the command that an entry answers is free.
-    fn free_place(&mut self, entry: &Entry)
+    pub fn free_place(&mut self, entry: &Entry)
         ensures { self.new.platform.board ≡ self.old.platform.board }
     {
         if let Entry::Replied { place, .. } = entry {
@@ -154,7 +155,7 @@ impl Guess {
 
     /// Gives the value that a reply of success shows to its domain or clock, by an agent that may
     /// set it, if there is one and no agent is notified of that.
-    fn give_value(&mut self, entry: &Entry)
+    pub fn give_value(&mut self, entry: &Entry)
         ensures { self.new.platform.board ≡ self.old.platform.board }
     {
         self.free_place(entry);

@@ -6,7 +6,7 @@ ghost use Rattle.scmi_judge.specs.declared.entry.Entry.{Entry as Shown};
 ghost use Rattle.scmi_plan.specs.Board.{Board};
 
 use crate::entry::Entry;
-use crate::guess::Guess;
+use crate::place::Place;
 use crate::stop::Stop;
 use crate::unseen::{ACTS, Act, Step, Unseen};
 use std::mem;
@@ -16,15 +16,15 @@ use std::mem;
 pub(crate) struct Guesses {
     // Those of which it is still to be tried what they move on to. Between two entries these are
     // all.
-    pub left: Vec<Guess>,
+    pub left: Vec<Place>,
     // Those of which it was tried.
-    pub tried: Vec<Guess>,
+    pub tried: Vec<Place>,
     // Those that are not left after the entry.
-    pub others: Vec<Guess>,
+    pub others: Vec<Place>,
     // Places for more.
-    pub spare: Vec<Guess>,
+    pub spare: Vec<Place>,
     // The place of the one that is being made.
-    pub made: Guess,
+    pub made: Place,
     // What may happen that no entry shows.
     pub unseen: Unseen,
 }
@@ -46,18 +46,21 @@ impl Guesses {
         ensures others { self.new.others ≡ self.old.others }
         ensures full { IfErr result (λ stop. stop ≡ Stop.Full
             → FindsMany self.old.unseen [] self.old.left.items (1 + places self.old)) }
+        ensures room { IfErr result (λ stop. stop ≡ Stop.Full
+            → places self.new ≡ places self.old) }
     {
         'each: while let Some(guess) = self.left.pop() {
-            self.try_steps(&guess)?;
+            let tried = self.try_steps(&guess);
             let Ok(()) = self.tried.push(guess) else {
                 return Err(Stop::Memory);
             };
+            tried?;
         }
         Ok(())
     }
 
     /// Tries each step from a guess.
-    fn try_steps(&mut self, guess: &Guess) -> Result<(), Stop>
+    fn try_steps(&mut self, guess: &Place) -> Result<(), Stop>
         requires boards { (board : Board) × AreOfBoard board self.old
             × (guess.now.platform.board ≡ board) }
         ensures whole { OnOk result (IsTriedWhole self.old.unseen guess.now
@@ -73,6 +76,8 @@ impl Guesses {
         ensures full { IfErr result (λ stop. stop ≡ Stop.Full
             → FindsMany self.old.unseen (self.old.tried.items ++ guess.now ∷ [])
             self.old.left.items (2 + places self.old)) }
+        ensures room { IfErr result (λ stop. stop ≡ Stop.Full
+            → places self.new ≡ places self.old) }
     {
         self.try_step(guess, Step::Complete)?;
         self.try_step(guess, Step::Refuse)?;
@@ -81,7 +86,7 @@ impl Guesses {
     }
 
     /// Tries what may happen to each agent, and to each outstanding command.
-    fn try_acts(&mut self, guess: &Guess) -> Result<(), Stop>
+    fn try_acts(&mut self, guess: &Place) -> Result<(), Stop>
         requires boards { (board : Board) × AreOfBoard board self.old
             × (guess.now.platform.board ≡ board) }
         ensures acts { OnOk result (AreTriedActs self.old.unseen guess.now
@@ -97,6 +102,8 @@ impl Guesses {
         ensures full { IfErr result (λ stop. stop ≡ Stop.Full
             → FindsMany self.old.unseen (self.old.tried.items ++ guess.now ∷ [])
             self.old.left.items (2 + places self.old)) }
+        ensures room { IfErr result (λ stop. stop ≡ Stop.Full
+            → places self.new ≡ places self.old) }
     {
         'acts: for act in &ACTS {
             self.try_each(guess, *act)?;
@@ -105,7 +112,7 @@ impl Guesses {
     }
 
     /// Tries this of each agent, or of the command at each place.
-    fn try_each(&mut self, guess: &Guess, act: Act) -> Result<(), Stop>
+    fn try_each(&mut self, guess: &Place, act: Act) -> Result<(), Stop>
         requires boards { (board : Board) × AreOfBoard board self.old
             × (guess.now.platform.board ≡ board) }
         ensures each { OnOk result (IsTriedAbove self.old.unseen guess.now act 0
@@ -121,8 +128,10 @@ impl Guesses {
         ensures full { IfErr result (λ stop. stop ≡ Stop.Full
             → FindsMany self.old.unseen (self.old.tried.items ++ guess.now ∷ [])
             self.old.left.items (2 + places self.old)) }
+        ensures room { IfErr result (λ stop. stop ≡ Stop.Full
+            → places self.new ≡ places self.old) }
     {
-        let mut number = act.count(guess.platform.agents());
+        let mut number = act.count(guess.get().platform.agents());
         'numbers: while number > 0 {
             self.try_step(guess, act.step(number))?;
             number -= 1;
@@ -131,7 +140,7 @@ impl Guesses {
     }
 
     /// Tries a step from a guess. What it moves on to is left, unless it was there before.
-    fn try_step(&mut self, guess: &Guess, step: Step) -> Result<(), Stop>
+    fn try_step(&mut self, guess: &Place, step: Step) -> Result<(), Stop>
         requires boards { (board : Board) × AreOfBoard board self.old
             × (guess.now.platform.board ≡ board) }
         ensures moves { OnOk result (IsTried self.old.unseen guess.now step
@@ -147,8 +156,10 @@ impl Guesses {
         ensures full { IfErr result (λ stop. stop ≡ Stop.Full
             → FindsMany self.old.unseen (self.old.tried.items ++ guess.now ∷ [])
             self.old.left.items (2 + places self.old)) }
+        ensures room { IfErr result (λ stop. stop ≡ Stop.Full
+            → places self.new ≡ places self.old) }
     {
-        if !guess.can_come(step, self.unseen) {
+        if !guess.get().can_come(step, self.unseen) {
             return Ok(());
         }
         self.made.copy_from(guess);
@@ -178,6 +189,8 @@ impl Guesses {
         ensures tried { self.new.tried ≡ self.old.tried }
         ensures others { self.new.others ≡ self.old.others }
         ensures full { IfErr result (λ stop. stop ≡ Stop.Full → self.old.spare.items ≡ []) }
+        ensures room { IfErr result (λ stop. stop ≡ Stop.Full
+            → places self.new ≡ places self.old) }
     {
         let Some(place) = self.spare.pop() else {
             return Err(Stop::Full);
@@ -186,7 +199,7 @@ impl Guesses {
     }
 
     /// The guess that was made is left, and this is the place of the next.
-    fn leave(&mut self, place: Guess) -> Result<(), Stop>
+    fn leave(&mut self, place: Place) -> Result<(), Stop>
         requires boards { (board : Board) × AreOfBoard board self.old
             × (place.platform.board ≡ board) }
         ensures kept { OnOk result
@@ -225,7 +238,7 @@ impl Guesses {
     }
 
     /// Leaves a guess as it is after an entry, if it gives that and is not left yet.
-    fn give_by(&mut self, guess: Guess, entry: &Entry) -> Result<(), Stop>
+    fn give_by(&mut self, guess: Place, entry: &Entry) -> Result<(), Stop>
         requires boards { (board : Board) × AreOfBoard board self.old
             × (guess.platform.board ≡ board) }
         ensures given { OnOk result (IsGiven self.old.unseen guess entry.now
@@ -288,7 +301,7 @@ impl Guesses {
 }
 
 /// Whether a guess is among others of its board.
-pub(crate) fn has(guesses: &[Guess], guess: &Guess) -> bool
+pub(crate) fn has(guesses: &[Place], guess: &Place) -> bool
     requires { IsOfBoard guess.now.platform.board guesses.now }
     ensures { (result ≡ true) ↔ IsIn guess.now guesses.now }
 {

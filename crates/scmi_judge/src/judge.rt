@@ -7,11 +7,12 @@ ghost use Rattle.scmi_judge.specs.declared.entry.Entry.{Entry as Shown};
 ghost use Rattle.scmi_judge.specs.declared.verdict.Verdict.TheVariants.{Same};
 
 use crate::entry::Entry;
-use crate::guess::Guess;
 use crate::guesses::Guesses;
+use crate::place::Place;
 use crate::stop::Stop;
 use crate::unseen::Unseen;
 use crate::verdict::Verdict;
+use crate::window::Window;
 use scmi_core::CoreError;
 use scmi_plan::Plan;
 use std::alloc::Global;
@@ -25,6 +26,8 @@ pub struct Judge {
     guesses: Guesses,
     // Whether it still judges.
     sure: bool,
+    // What may explain an entry that differs.
+    window: Window,
 }
 
 impl Model for Judge {
@@ -41,7 +44,7 @@ impl Model for Judge {
       sure = j.sure;
     } };
 
-    ghost invariant = { λ j. IsReady j.sure j.guesses };
+    ghost invariant = { λ j. IsReady j.sure j.guesses j.window };
 }
 
 impl Judge {
@@ -56,8 +59,10 @@ impl Judge {
         ensures unseen { IfOk result (λ judge. judge.unseen ≡ unseen) }
         ensures errors { IfErr result (λ e. e ≡ CoreError.Memory) }
     {
+        let first = Place::new(alloc, plan)?;
+        let made = Place::new(alloc, place)?;
         let mut left = Vec::new(alloc);
-        let Ok(()) = left.push(Guess::new(plan)) else {
+        let Ok(()) = left.push(first) else {
             return Err(CoreError::Memory);
         };
         let guesses = Guesses {
@@ -65,12 +70,13 @@ impl Judge {
             tried: Vec::new(alloc),
             others: Vec::new(alloc),
             spare: Vec::new(alloc),
-            made: Guess::new(place),
+            made,
             unseen,
         };
         Ok(Judge {
             guesses,
             sure: true,
+            window: Window::new(alloc),
         })
     }
 
@@ -84,10 +90,34 @@ impl Judge {
             ≡ 1 + (length self.old.guesses + length self.old.spare)) }
         ensures errors { IfErr result (λ e. e ≡ CoreError.Memory) }
     {
-        let Ok(()) = self.guesses.spare.push(Guess::new(place)) else {
+        let place = Place::new(*self.guesses.spare.allocator(), place)?;
+        let Ok(()) = self.guesses.spare.push(place) else {
             return Err(CoreError::Memory);
         };
         Ok(())
+    }
+
+    /// Makes places for one more platform that may be looked back to, before the first entry: of each
+    /// of three times. `Memory` is the only error.
+    pub fn add_look_back(&mut self, before: Plan, between: Plan, now: Plan) -> Result<(), CoreError>
+        requires before { before ≡ self.old.board }
+        requires between { between ≡ self.old.board }
+        requires now { now ≡ self.old.board }
+        ensures knows { (entries : List Shown) → Knows self.old entries → Knows self.new entries }
+        ensures board { self.new.board ≡ self.old.board }
+        ensures unseen { self.new.unseen ≡ self.old.unseen }
+        ensures places { length self.new.guesses + length self.new.spare
+            ≡ length self.old.guesses + length self.old.spare }
+        ensures errors { IfErr result (λ e. e ≡ CoreError.Memory) }
+    {
+        let alloc = *self.guesses.spare.allocator();
+        let before = Place::new(alloc, before)?;
+        let between = Place::new(alloc, between)?;
+        let now = Place::new(alloc, now)?;
+        match self.window.add(before, between, now, &self.guesses.left) {
+            Ok(()) => Ok(()),
+            Err(_) => Err(CoreError::Memory),
+        }
     }
 
     /// Judges the next entry. If the entries so far have a legal history, the verdict is `Same` if
@@ -130,6 +160,9 @@ impl Judge {
         self.sure = false;
         match self.guesses.judge(entry) {
             Ok(verdict) => {
+                let Ok(()) = self.window.note(entry, &verdict, &self.guesses.left) else {
+                    return Err(CoreError::Memory);
+                };
                 self.sure = true;
                 Ok(Some(verdict))
             }
@@ -138,8 +171,9 @@ impl Judge {
         }
     }
 
-    /// Passes over an entry that differs, and goes on from what it shows, if that can be. From there
-    /// on nothing is promised but that the places stay. `Memory` is the only error.
+    /// Passes over an entry that differs. If one of the last entries alone explains it, it goes on as
+    /// if that had been another, and else from what this one shows, if that can be. From there on
+    /// nothing is promised but that the places stay. `Memory` is the only error.
     pub fn go_on(&mut self, entry: &Entry) -> Result<(), CoreError>
         ensures places { OnOk result (length self.new.guesses + length self.new.spare
             ≡ length self.old.guesses + length self.old.spare) }
@@ -151,12 +185,18 @@ impl Judge {
             return Ok(());
         }
         self.sure = false;
-        match self.guesses.pass_over(entry) {
+        match self.guesses.look_back(&mut self.window, entry) {
             Ok(()) => {
                 self.sure = true;
                 Ok(())
             }
             Err(_) => Err(CoreError::Memory),
         }
+    }
+
+    /// How many entries that were the same stand behind the one that alone explains the last entry
+    /// that was passed over, with that one. `None` if no one is known to.
+    pub fn explained(&self) -> Option<usize> {
+        self.window.back
     }
 }

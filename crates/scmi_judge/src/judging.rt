@@ -4,7 +4,7 @@ ghost use Rattle.scmi_plan.specs.Board.{Board};
 ghost use Rattle.scmi_judge.specs.Behind.{HasLegalHistory};
 ghost use Rattle.scmi_judge.specs.Due.{IsDue};
 ghost use Rattle.scmi_judge.specs.Exact.{AreExact};
-ghost use Rattle.scmi_judge.specs.Guesses.{AreDifferent, FindsMany, HaveBoard, KeepBoard, places};
+ghost use Rattle.scmi_judge.specs.Guesses.{AreDifferent, FindsMany, HaveBoard, KeepBoard, all_places, places};
 ghost use Rattle.scmi_judge.specs.declared.entry.Entry.{Entry as Shown};
 ghost use Rattle.scmi_judge.specs.declared.verdict.Verdict.TheVariants.{Same};
 
@@ -46,6 +46,8 @@ impl Guesses {
         ensures keeps { KeepBoard self.old self.new }
         ensures full { IfErr result (λ stop. stop ≡ Stop.Full
             → FindsMany self.old.unseen [] self.old.left.items (1 + places self.old)) }
+        ensures room { IfErr result (λ stop. stop ≡ Stop.Full
+            → all_places self.new ≡ all_places self.old) }
     {
         self.close()?;
         self.give(entry)?;

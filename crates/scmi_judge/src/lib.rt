@@ -15,13 +15,17 @@ mod guess;
 mod guesses;
 mod judge;
 mod judging;
+mod kept;
+mod looking_back;
 mod outstanding;
+mod place;
 mod records;
 mod same;
 mod shown;
 mod stop;
 mod unseen;
 mod verdict;
+mod window;
 
 pub use due::in_place;
 pub use entry::Entry;

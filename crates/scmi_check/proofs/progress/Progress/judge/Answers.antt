@@ -1,4 +1,4 @@
-use Rattle.std.proofs.Common.{◌∷◌, ◌++◌, [], false, refl, sym, subst}
+use Rattle.std.proofs.Common.{◌∷◌, ◌++◌, [], refl, sym, subst}
 use Rattle.scmi_check.specs.Progress.{AreBeingJudged}
 use Rattle.scmi_check.specs.declared.progress.Progress.{Progress}
 use Rattle.scmi_check.proofs.Growing.{append-none, grows-none}
@@ -11,7 +11,8 @@ returns-in-Some-clause-judged g c = λ r b before judged being.
     let one = c.args.one.now in
     let new : Progress = record {
       judge = old.judge;
-      is_empty = false;
+      lines = old.lines;
+      is_empty = c.is_still_empty-self.result;
       differs = old.differs;
       unsure = old.unsure;
     } in
@@ -19,10 +20,10 @@ returns-in-Some-clause-judged g c = λ r b before judged being.
       more = [];
       are = subst (λ js. AreBeingJudged r b (before ++ one ∷ []) js new) (sym (append-none judged))
           (passed-over r b before judged one old new being c.in-Some._line c.in-Some.is refl refl
-          refl refl);
+          refl c.is_still_empty-self.ensures);
       given = grows-none (g.L.Listener.judged c.args.listener.now);
     }
 
 pub returns-in-None-clause-judged : goal.returns-in-None-clause-judged
 returns-in-None-clause-judged g c = λ r b before judged being. c.judge_next.ensures.judged r b
-    before judged c.args.self.now.is_empty being
+    before judged c.args.self.now.is_empty c.is_still_empty-self.ensures being

@@ -14,11 +14,12 @@ use Rattle.scmi_check.proofs.Progressing.{now-judged, now-unsure}
 use Rattle.scmi_check.proofs.progress.Progress.judge_next.Goals as goal
 
 pub returns-in_default-clause-judged : goal.returns-in_default-clause-judged
-returns-in_default-clause-judged g c = λ r b before judged empty being.
+returns-in_default-clause-judged g c = λ r b before judged empty is being.
     let old = c.args.self.now in
     let one = c.args.one.now in
     let new : Progress = record {
       judge = c.judge_one.new.judge;
+      lines = old.lines;
       is_empty = old.is_empty;
       differs = old.differs;
       unsure = Some one.line;
@@ -30,17 +31,18 @@ returns-in_default-clause-judged g c = λ r b before judged empty being.
       are = subst (λ js. AreBeingJudged r b (before ++ one ∷ []) js new) (sym (append-none judged))
           (now-unsure r b before judged one (at_entry old empty) new being c.requires.sure
           (λ entries knows. c.in_ok-verdict.ensures.many entries knows (ap Ok none))
-          c.judge_one.ensures.board c.judge_one.ensures.unseen refl refl c.requires.some);
+          c.judge_one.ensures.board c.judge_one.ensures.unseen refl refl is);
       given = grows-none (g.L.Listener.judged c.args.listener.now);
     }
 
 pub returns-clause-judged : goal.returns-clause-judged
-returns-clause-judged g c = λ r b before judged empty being.
+returns-clause-judged g c = λ r b before judged empty is being.
     let old = c.args.self.now in
     let one = c.args.one.now in
     let v = c.in-Some.verdict in
     let new : Progress = record {
       judge = c.judge_one.new.judge;
+      lines = c.note-unless.new.self;
       is_empty = old.is_empty;
       differs = c.either-any.result;
       unsure = old.unsure;
@@ -70,7 +72,7 @@ returns-clause-judged g c = λ r b before judged empty being.
       more = record { line = one.line; entry = one.entry; verdict = v } ∷ [];
       are = now-judged r b before judged one (at_entry old empty) new being c.requires.sure v fits
           legal differs places c.judge_one.ensures.board c.judge_one.ensures.unseen c.requires.sure
-          any c.requires.some;
+          any is;
       given = subst (λ (e : Entry). Grows (g.L.Listener.judged c.args.listener.now)
           (g.L.Listener.judged c.found.new.self)
           (record { line = one.line; entry = e; verdict = v } ∷ [])) c.copy.ensures given;

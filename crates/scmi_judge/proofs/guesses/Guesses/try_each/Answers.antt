@@ -1,4 +1,4 @@
-use Rattle.std.proofs.Common.{◌≡◌, ◌+◌, ◌<◌, ◌++◌, ◌∷◌, [], Err, refl, sym, ap, ◌∙◌, subst, rules, arith}
+use Rattle.std.proofs.Common.{◌≡◌, ◌+◌, ◌<◌, ◌++◌, ◌∷◌, [], Err, length, refl, sym, ap, ◌∙◌, subst, rules, arith}
 use Rattle.std.proofs.lemmas.Grind.{common_steps}
 use Rattle.scmi_judge.specs.Exact.{HaveGrown, IsTried, IsTriedAbove}
 use Rattle.scmi_judge.specs.Unseen.{count_of, step_of}
@@ -6,6 +6,7 @@ use Rattle.scmi_judge.proofs.Among.{above-later, each-above, grown-again, grown-
 use Rattle.scmi_judge.proofs.Boards.{keep-again}
 use Rattle.scmi_judge.specs.Guesses.{places}
 use Rattle.scmi_judge.proofs.Different.{finds-later, if-err, stays-found}
+use Rattle.scmi_judge.specs.declared.guess.Guess.{Guess}
 use Rattle.scmi_judge.proofs.guesses.Guesses.try_each.Goals as goal
 
 pub numbers-init : goal.numbers-init
@@ -13,7 +14,9 @@ numbers-init c =
     let r = c.args.self.now.unseen in
     let g = c.args.guess.now in
     let all = (c.args.self.now.tried.items ++ g ∷ []) ++ c.args.self.now.left.items in
-    let count = c.count-number.ensures ∙ ap (count_of c.args.act) c.agents.ensures.count in
+    let agents = c.agents.ensures.count
+    ∙ ap (λ (x : Guess). length x.platform.board.agents) c.get.ensures in
+    let count = c.count-number.ensures ∙ ap (count_of c.args.act) agents in
     record {
       keeps = record { boards = λ board of. of; unseen = refl };
       tried = refl;
