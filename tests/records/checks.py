@@ -5,6 +5,7 @@ from pathlib import Path
 from typing import NamedTuple
 
 from exact import REFUSALS
+from marks import Marked, marked_first
 from report import Wanted, first_blamed, read_report, wanted_of, wrong_doubt, wrong_form, wrong_verdict
 from texts import board_text, read_record
 
@@ -12,13 +13,15 @@ SECONDS = 20
 
 
 class Case(NamedTuple):
-    """A record of a board, whether the hardware may have refused its pending sets, and what is wanted of its report."""
+    """A record of a board, whether the hardware may have refused its pending sets, what is wanted of its report, and
+    the line with its fault, if it has one at one line."""
     name: str
     board: object
     text: str
     entries: list
     refuses: bool
     wanted: Wanted
+    planted: int = None
 
 
 class Checked(NamedTuple):
@@ -28,9 +31,11 @@ class Checked(NamedTuple):
 
 
 class Wrong(NamedTuple):
-    """What is wrong with a report, and the line at which the check was unsure, if it blamed none before."""
+    """What is wrong with a report; the line at which the check was unsure, if it blamed none before; and whether there
+    are too many states to say which line explains its first difference."""
     why: str
     unsure: int
+    unsaid: bool = False
 
 
 def seconds_of_children():
@@ -58,8 +63,10 @@ def judged(case, checked):
     if checked.status < 0:
         return Wrong(f"ended by signal {-checked.status} after {checked.seconds:.1f} s of processor", None)
     report = read_report(checked.said)
+    unsure = None if first_blamed(report)[0] else report.unsure
     why = wrong_form(report, case, checked.status) or wrong_verdict(report, case.wanted) or wrong_doubt(report, case)
-    return Wrong(why, None if first_blamed(report)[0] else report.unsure)
+    marked = Marked(why, False) if why or case.wanted.line is None else marked_first(report, case)
+    return Wrong(marked.why, unsure, marked.unsaid)
 
 
 def case_of(name, board, text, refuses):

@@ -132,6 +132,15 @@ class Judge:
         """The guesses after an entry, from one before it."""
         return self.after_answer(guess, entry) if isinstance(entry, Answered) else self.after_message(guess, entry)
 
+    def unseen(self, guess, entry):
+        """The guesses after an entry, whatever it shows: its command was executed, or was not; or the message in the
+        channel of its agent was taken, or was not."""
+        if not isinstance(entry, Answered):
+            yield from (guess, guess._replace(state=taken(guess.state, entry.agent)))
+            return
+        for done in (guess, *self.answered(guess, entry.agent)):
+            yield with_command(done, entry.agent, None, done.state)
+
     def asked(self, entry):
         """The guesses once the commands are posted that an entry has before it."""
         guesses = self.guesses
@@ -141,9 +150,17 @@ class Judge:
 
     def see(self, entry):
         """Goes on to the guesses after an entry; there is none if no history is left."""
+        return self.go(entry, self.fitting)
+
+    def pass_by(self, entry):
+        """Goes on to the guesses after an entry without a look at what it shows."""
+        return self.go(entry, self.unseen)
+
+    def go(self, entry, after):
+        """Goes on to the guesses after an entry, which each guess before it leads to."""
         # A command that is executed directly before the line of its answer may as well be at that line.
         self.before = self.reached(self.asked(entry), entry.agent if isinstance(entry, Answered) else None)
-        self.guesses = {after for guess in self.before for after in self.fitting(guess, entry)}
+        self.guesses = {one for guess in self.before for one in after(guess, entry)}
         return bool(self.guesses)
 
 

@@ -14,6 +14,8 @@ LETTERS = [chr(byte) for byte in range(0x21, 0x7F)]
 # How many rates a list has: most boards are short, since a check reads them often.
 COUNTS = (1, 2, 2, 3, 3, 3, 4, 4, 5, 5, 6, 8, 12, 20, 31, 64)
 MANY = 8
+# A lie is one of the first so many answers to commands that change something.
+MOST_BEFORE_LIE = 8
 ODD_WORDS = (0, 1, 2, 3, 8, 31, 32, 0x100, ON, OFF, 0x80000000, 0xFFFFFFFF)
 
 
@@ -267,11 +269,13 @@ def posted_by(rng, agent, command):
 
 
 class Made(NamedTuple):
-    """A record that was made: what it shows, and whether the hardware refused a pending set behind it."""
+    """A record that was made: what it shows, whether the hardware refused a pending set behind it, and the line of an
+    answer that is a lie, if one is."""
     mix: str
     board: Board
     items: list
     refuses: bool
+    lie: int = None
 
 
 class History:
@@ -284,6 +288,8 @@ class History:
         self.silent, self.never = set(), set()
         self.deaf = {agent for agent in agents_of(board) if rng.random() < mix.deaf}
         self.past = {}
+        # How many commands that change something are answered until one is by a lie, or 0; and that answer.
+        self.until_lie, self.lie = 0, None
 
     def move(self, state):
         """Goes on to a state, and keeps the values that it changes."""
@@ -338,8 +344,24 @@ class History:
         answer, state = done.answer, done.state
         if done.changes and self.fails():
             answer, state = refused_answer(frame), self.state
+        lies = state != self.state and agent not in self.silent and self.lies_now()
+        if lies:
+            answer, state = self.lied(frame, done)
         self.answers[agent] = Got(agent, frame, answer, self.past_of(frame))
+        if lies:
+            self.lie = self.answers[agent]
         self.move(state)
+
+    def lies_now(self):
+        """Whether a command that changes something is answered by a lie: one is, but for histories that are legal."""
+        self.until_lie -= 1
+        return self.until_lie == 0
+
+    def lied(self, frame, done):
+        """What a platform answers and does that lies: it has not executed it, or the hardware has not refused it."""
+        if done.changes and self.rng.randrange(3) == 0:
+            return refused_answer(frame), done.state
+        return done.answer, self.state
 
     def execute_one(self):
         agent = self.one_of(set(self.waiting) - self.never)
@@ -392,12 +414,26 @@ def record_text(items):
     return "".join(item.line() + "\n" for item in items)
 
 
-def some_history(seed, mix=None, entries=None):
-    """The record of a seed."""
+def started(seed, mix, entries):
+    """A history of a seed before its first item, the name of its mix, and how many answers and messages it gets."""
     rng = random.Random(f"history {seed}")
     name = mix or sorted(MIXES)[seed % len(MIXES)]
     board = some_board(rng, rng.choice(MIXES[name].sizes))
     count = entries or rng.randint(20, 60) * (2 if name == "flood" else 1)
-    history = History(rng, board, MIXES[name])
+    return History(rng, board, MIXES[name]), name, count
+
+
+def some_history(seed, mix=None, entries=None):
+    """The record of a seed."""
+    history, name, count = started(seed, mix, entries)
     history.go_on(count)
-    return Made(name, board, history.items, history.refuses)
+    return Made(name, history.board, history.items, history.refuses)
+
+
+def some_lie(seed, mix=None, entries=None):
+    """The record of a seed, of a platform of which one answer is a lie, and which goes on from what it did."""
+    history, name, count = started(seed, mix, entries)
+    history.until_lie = random.Random(f"lie {seed}").randint(1, MOST_BEFORE_LIE)
+    history.go_on(count)
+    line = next((line for line, item in enumerate(history.items, 1) if item is history.lie), None)
+    return Made(name, history.board, history.items, history.refuses, line)

@@ -3,16 +3,17 @@ import re
 from typing import NamedTuple
 
 from exact import Judge, TooMany, is_refusal
-from model import (BASE, CLOCK, INVALID_PARAMETERS, NOT_FOUND, OUT_OF_RANGE, POWER, SUCCESS, executed,
-                   protocol_of, refused_answer)
+from own import findings_of
 from texts import Answered
 
-# The word of the flags of a command, and its first reserved bit.
-FLAGS = {(BASE, 0x9): (2, 1), (BASE, 0xA): (3, 1), (BASE, 0xB): (1, 1), (POWER, 0x4): (0, 1), (CLOCK, 0x5): (0, 4),
-         (CLOCK, 0x7): (1, 1)}
 ENTRY = re.compile(r"(\d+) (same|differs|own [a-z-]+)( .*)?")
 # A difference of a response that says that the hardware refused, of a check without --refusals.
 HARDWARE = re.compile(r" by hardware\b")
+# The earlier line that alone explains a difference, and a mark that is no more.
+UNLESS = re.compile(r" unless (\d+)$")
+AFTER = re.compile(r" after \d+\b")
+# The reply that was due in place of one that is `own`.
+DUE = re.compile(r" expected \S+((?: 0x[0-9a-f]{8})+), got ")
 UNSURE = re.compile(r"(\d+) unsure, and judged no further")
 COUNTS = re.compile(r"(\d+) same, (\d+) own, (\d+) differ(, .*)?")
 # A check keeps so many states, and may be unsure only if there are more.
@@ -28,52 +29,12 @@ class Wanted(NamedTuple):
 ALL_SAME = Wanted(None, set())
 
 
-def has_reserved_flag(frame):
-    at, bit = FLAGS.get((protocol_of(frame[1]), frame[1] & 0xFF), (0, 0))
-    return bit > 0 and len(frame[2]) > at and frame[2][at] >> bit > 0
-
-
-def own_rule(frame, due, seen):
-    """The rule of the project's own by which another reply than the due one is possible; None if there is none."""
-    if seen[0] != "reply" or due[0] != "reply" or seen[1] != due[1]:
-        return None
-    command, want, got = (protocol_of(due[1]), due[1] & 0xFF), due[2], seen[2]
-    succeeded = want[0] == SUCCESS and got[:1] == (SUCCESS,)
-    rules = {
-        "unknown-id": want[0] == NOT_FOUND and got[:1] == (INVALID_PARAMETERS,),
-        "reserved-flags": want[0] == INVALID_PARAMETERS and has_reserved_flag(frame),
-        "skip": want[0] == INVALID_PARAMETERS and command == (BASE, 0x6) and got == (SUCCESS, 0),
-        "index": want[0] == OUT_OF_RANGE and command == (CLOCK, 0x4) and got[:1] == (SUCCESS,) and len(got) == 2,
-        "error-form": want[0] != SUCCESS and got[:1] == want and len(got) > 1,
-        "version": succeeded and command[1] == 0x0,
-        "board-name": succeeded and command in ((BASE, 0x3), (BASE, 0x4), (BASE, 0x5)),
-    }
-    return next((rule for rule, fits in rules.items() if fits), None)
-
-
-def dues_of(board, guesses, entry):
-    """The answers that a command may have got, but that of hardware that refuses."""
-    agent = entry.agent
-    answers = {guess.commands[agent - 1].answer or executed(board, guess.state, agent, entry.frame).answer
-               for guess in guesses}
-    return answers - {refused_answer(entry.frame)}
-
-
-def findings_of(board, guesses, entry):
-    """What may be found of an entry that no history has, by the guesses before it."""
-    if not isinstance(entry, Answered):
-        return {"differs"}
-    dues = dues_of(board, guesses, entry)
-    rules = {own_rule(entry.frame, due, entry.answer) for due in dues}
-    return {f"own {rule}" if rule else "differs" for rule in rules}
-
-
 def wanted_of(board, entries, refuses):
     """What is wanted of the report of a record; raises TooMany if the model does not say."""
     judge = Judge(board, refuses)
     for entry in entries:
         if not judge.see(entry):
-            return Wanted(entry.line, findings_of(board, judge.before, entry))
+            return Wanted(entry.line, set(findings_of(board, judge.before, entry)))
     return ALL_SAME
 
 
@@ -95,32 +56,56 @@ def states_before(case, line):
 
 
 class Report(NamedTuple):
-    """The report of a check: what is found at each line, which of these differ by the hardware, where it is unsure, and
-    what it counts."""
+    """The report of a check: what is found at each line, which of these differ by the hardware, where it is unsure,
+    what it counts, and the lines with a reply that was due, with another line that is named, or with `after`."""
     findings: list
     hardware: list
     unsure: int
     counts: tuple
+    dues: list
+    unless: list
+    after: list
+
+
+def due_in(rest):
+    """The reply that was due, by the rest of a line; None if there is none."""
+    match = DUE.search(rest)
+    if not match:
+        return None
+    header, *words = (int(word, 0) for word in match[1].split())
+    return "reply", header, tuple(words)
 
 
 def read_report(text):
-    findings, hardware, unsure, counts = [], [], None, None
+    entries, unsure, counts = [], None, None
     for line in text.splitlines():
         if match := ENTRY.fullmatch(line):
-            findings.append((int(match[1]), match[2]))
-            if HARDWARE.search(match[3] or ""):
-                hardware.append(int(match[1]))
+            entries.append((int(match[1]), match[2], match[3] or ""))
         elif match := UNSURE.fullmatch(line):
             unsure = int(match[1])
         elif match := COUNTS.fullmatch(line):
             counts = tuple(int(match[place]) for place in (1, 2, 3))
-    return Report(findings, hardware, unsure, counts)
+    return Report([(line, finding) for line, finding, _ in entries],
+                  [line for line, _, rest in entries if HARDWARE.search(rest)], unsure, counts,
+                  [(line, due_in(rest)) for line, _, rest in entries],
+                  [(line, int(match[1])) for line, _, rest in entries if (match := UNLESS.search(rest))],
+                  [line for line, _, rest in entries if AFTER.search(rest)])
 
 
 def hardware_of(report, case):
     """The lines that have to differ by the hardware."""
     refusals = set() if case.refuses else {entry.line for entry in case.entries if is_refusal(entry)}
     return [line for line, finding in report.findings if finding == "differs" and line in refusals]
+
+
+def wrong_name(report):
+    """What is wrong with a line that is named, by the other lines; None if nothing is."""
+    unless, candidates = dict(report.unless), []
+    for line, finding in report.findings:
+        if line in unless and (finding != "differs" or unless[line] not in candidates):
+            return f"line {line} names line {unless[line]}, which is no candidate"
+        candidates = [] if finding == "differs" else [*candidates, line]
+    return None
 
 
 def wrong_form(report, case, status):
@@ -132,11 +117,13 @@ def wrong_form(report, case, status):
         return "not one line for each entry"
     if report.hardware != hardware_of(report, case):
         return f"lines {report.hardware} differ by the hardware in place of {hardware_of(report, case)}"
+    if report.after:
+        return f"lines {report.after} end with `after`"
     if report.counts != counts:
         return f"counts {report.counts} in place of {counts}"
     if status != (5 if "differs" in words else 6 if report.unsure else 0):
         return f"status {status}"
-    return None
+    return wrong_name(report)
 
 
 def first_blamed(report):

@@ -138,8 +138,12 @@ def words_text(words):
     return "".join(f" {word:#010x}" for word in words)
 
 
+def answer_text(answer):
+    return answer[0] + (words_text((answer[1], *answer[2])) if answer[0] == "reply" else "")
+
+
 def answer_line(agent, answer):
-    return f"{agent} {answer[0]}" + (words_text((answer[1], *answer[2])) if answer[0] == "reply" else "")
+    return f"{agent} {answer_text(answer)}"
 
 
 def message_line(agent, message):
