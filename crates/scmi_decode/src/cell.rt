@@ -1,7 +1,7 @@
 //! The bytes of a dump in either order of digits, and what its column of text shows.
 ghost use Rattle.std.specs.Prelude.{◌≡◌, IfOk};
 ghost use Rattle.std.specs.Option.{option_map};
-ghost use Rattle.scmi_decode.specs.Cell.{are_alike, byte_in, bytes_in, cells_of, character_of, first_byte, is_zero_in, later_bytes, order_shown, settled, shows};
+ghost use Rattle.scmi_decode.specs.Cell.{are_alike, byte_in, bytes_in, character_of, first_byte, is_zero_in, later_bytes, order_shown, settled, shows};
 
 use crate::order::Order;
 use std::alloc::{AllocError, Global};
@@ -18,35 +18,8 @@ pub(crate) struct Cell {
     pub(crate) shown: u8,
 }
 
-/// The cells of bytes in either order, and of the text that shows them.
-pub(crate) fn cells_of(
-    alloc: Global,
-    straight: &[u8],
-    turned: &[u8],
-    shown: &[u8],
-) -> Result<Vec<Cell>, AllocError>
-    ensures { IfOk result (λ cells.
-        cells.items ≡ cells_of straight.now turned.now shown.now) }
-{
-    let mut cells = Vec::with_capacity(alloc, straight.len())?;
-    let mut rest = straight;
-    let mut turned_rest = turned;
-    let mut shown_rest = shown;
-    'cells: while let [byte, behind @ ..] = rest {
-        cells.push(Cell {
-            straight: *byte,
-            turned: first_byte(turned_rest),
-            shown: first_byte(shown_rest),
-        })?;
-        rest = behind;
-        turned_rest = later_bytes(turned_rest);
-        shown_rest = later_bytes(shown_rest);
-    }
-    Ok(cells)
-}
-
 /// The first byte, 0 of none.
-fn first_byte(bytes: &[u8]) -> u8
+pub(crate) fn first_byte(bytes: &[u8]) -> u8
     ensures { result ≡ first_byte bytes.now }
 {
     match bytes {

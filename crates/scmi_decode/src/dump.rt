@@ -1,32 +1,18 @@
 //! The bytes of a line of a dump.
 ghost use Rattle.std.specs.Prelude.{◌≡◌, ◌/◌, [], IfOk, map, length};
 ghost use Rattle.std.specs.Option.{option_map};
-ghost use Rattle.scmi_decode.specs.Dump.{Adds, bytes_of, digits_of, is_number, has_mark, item_bytes, items_bytes, line_bytes};
+ghost use Rattle.scmi_decode.specs.Dump.{Adds, bytes_of, digits_of, is_number, has_mark, item_bytes, items_bytes};
 
-use crate::lines::items_of;
 use crate::row::ROW_BYTES;
 use hex::FromHexError;
 use std::alloc::{AllocError, Global};
 
 /// An item of at most this many digits takes no memory of its own (own).
-const SHORT_DIGITS: usize = 64;
+pub(crate) const SHORT_DIGITS: usize = 64;
 
-/// The bytes of a line, `None` if an item of it is of another form. An item is bytes of two
+/// The bytes of items, in order, `None` if an item of them is of another form. An item is bytes of two
 /// hexadecimal digits each; or a number, its lowest byte first: `0x` and digits, or any digits if
 /// they are turned. The only possible error: out of memory.
-pub(crate) fn line_bytes(
-    alloc: Global,
-    turned: bool,
-    line: &[u8],
-) -> Result<Option<Vec<u8>>, AllocError>
-    ensures { IfOk result (λ found.
-        option_map (λ bytes. bytes.items) found ≡ line_bytes turned line.now) }
-{
-    let items = items_of(alloc, line)?;
-    items_bytes(alloc, turned, items.as_slice())
-}
-
-/// The bytes of items, in order.
 pub(crate) fn items_bytes(
     alloc: Global,
     turned: bool,
@@ -79,7 +65,7 @@ fn add_long(alloc: Global, turned: bool, all: &mut Vec<u8>, item: &[u8]) -> Resu
 }
 
 /// Decodes digits, two for each byte, into as many bytes, and gives whether they are digits.
-fn decode_digits(digits: &[u8], bytes: &mut [u8]) -> bool
+pub(crate) fn decode_digits(digits: &[u8], bytes: &mut [u8]) -> bool
     requires room { length bytes.old ≡ length digits.now / 2 }
     ensures { Adds (bytes_of digits.now) result [] bytes.new }
 {
@@ -95,7 +81,7 @@ fn is_number(turned: bool, item: &[u8]) -> bool
 }
 
 /// The digits of an item, after its mark.
-fn digits_of(item: &[u8]) -> &[u8]
+pub(crate) fn digits_of(item: &[u8]) -> &[u8]
     ensures { result.now ≡ digits_of item.now }
 {
     if has_mark(item) { &item[2..] } else { item }

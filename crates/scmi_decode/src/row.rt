@@ -3,11 +3,12 @@ ghost use Rattle.std.specs.Prelude.{◌≡◌, IfOk};
 ghost use Rattle.std.specs.Option.{option_map};
 ghost use Rattle.scmi_decode.specs.Row.{address_of, base_of, column_text, data_cells, data_column, form_cells, item_column, offset_row, parts_row, row_of, row_with, shown_of, word_bytes_of, word_cells};
 
-use crate::cell::{Cell, cells_of};
-use crate::dump::{has_mark, line_bytes};
+use crate::cell::Cell;
+use crate::dump::has_mark;
 use crate::first_column::{FirstColumn, no_column};
 use crate::form::Form;
 use crate::group_order::{are_bits, data_order, group_of, is_long};
+use crate::line_cells::{add_bytes, line_cells, show};
 use crate::number::{number_from, without_mark};
 use crate::order::Order;
 use crate::parts::{parts_of, without_return};
@@ -166,6 +167,7 @@ fn form_cells(
 }
 
 /// The cells of a number of four bytes that is printed without leading zeros.
+#[tactic(auto, using(crate::proofs::Items::reversed_twice))]
 fn word_cells(alloc: Global, item: &[u8]) -> Result<Option<Vec<Cell>>, AllocError>
     ensures { IfOk result (λ found.
         option_map (λ cells. cells.items) found ≡ word_cells item.now) }
@@ -173,10 +175,13 @@ fn word_cells(alloc: Global, item: &[u8]) -> Result<Option<Vec<Cell>>, AllocErro
     if !has_mark(item) {
         return Ok(None);
     }
-    let Some(bytes) = word_bytes_of(number_from(16, 0, &item[2..])) else {
+    let Some(mut bytes) = word_bytes_of(number_from(16, 0, &item[2..])) else {
         return Ok(None);
     };
-    let cells = cells_of(alloc, &bytes, &bytes, &[])?;
+    bytes.reverse();
+    let mut cells = Vec::new(alloc);
+    add_bytes(&mut cells, true, &bytes)?;
+    show(&mut cells, &[]);
     Ok(Some(cells))
 }
 
@@ -200,14 +205,11 @@ fn data_cells(
     ensures { IfOk result (λ found.
         option_map (λ cells. cells.items) found ≡ data_cells form groups.now column.now) }
 {
-    let Some(straight) = line_bytes(alloc, false, groups)? else {
+    let Some(mut cells) = line_cells(alloc, groups)? else {
         return Ok(None);
     };
-    let Some(turned) = line_bytes(alloc, true, groups)? else {
-        return Ok(None);
-    };
-    let shown = shown_of(form, straight.len(), column);
-    let cells = cells_of(alloc, straight.as_slice(), turned.as_slice(), shown)?;
+    let shown = shown_of(form, cells.len(), column);
+    show(&mut cells, shown);
     Ok(Some(cells))
 }
 
