@@ -1,7 +1,6 @@
 -- The bytes of items, one item after another.
-use Rattle.std.proofs.Common.{arith, ◌≡◌, ℕ, ◌+◌, ◌<◌, Bool, true, false, List, [], ◌∷◌, ◌++◌, length, get_or, take, drop, map, reverse, Option, None, Some, sym, ◌∙◌, ap, refl}
+use Rattle.std.proofs.Common.{◌≡◌, ℕ, ◌+◌, ◌<◌, Bool, true, false, List, [], ◌∷◌, ◌++◌, length, get_or, take, drop, map, reverse, Option, None, Some, sym, ◌∙◌, ap, refl}
 use Rattle.std.proofs.lemmas.List as list
-use Rattle.std.proofs.lemmas.Bool.Decides.{nat_tests}
 use Rattle.scmi_decode.specs.declared.cell.Cell.{Cell}
 use Rattle.scmi_decode.specs.Cell.{byte_in, bytes_in}
 use Rattle.scmi_decode.specs.Dump.{Adds, item_bytes, items_bytes, both_bytes}
@@ -45,17 +44,11 @@ stop t f xs i d more bad =
 -- nothing was added only of an item that has no bytes
 pub adds_none : (o : Option (List ℕ)) (added : Bool) (old new : List ℕ) → Adds o added old new → added ≡ false → o ≡ None
 adds_none None added old new adds none = refl
-adds_none (Some bytes) added old new adds none = absurd (true-not-false (sym adds.0 ∙ none))
-  where
-    true-not-false : true ≡ false → ⊥
-    true-not-false e = grind (arith, nat_tests)
+adds_none (Some bytes) added old new adds none = cc
 
 -- what was added are the bytes of the item
 pub adds_some : (o : Option (List ℕ)) (added : Bool) (old new : List ℕ) → Adds o added old new → added ≡ true → (bytes : List ℕ) × (o ≡ Some bytes) × (new ≡ old ++ bytes)
-adds_some None added old new adds some = absurd (false-not-true (sym adds ∙ some))
-  where
-    false-not-true : false ≡ true → ⊥
-    false-not-true e = grind (arith, nat_tests)
+adds_some None added old new adds some = absurd (cc)
 adds_some (Some bytes) added old new adds some = (bytes, refl, adds.1)
 
 -- one more part of a line, which has bytes
@@ -77,5 +70,6 @@ pub cell_more : (t : Bool) (old new : List Cell) (c : Cell) (first bytes : List 
 cell_more t old new c first bytes i more pushed here so_far =
     rw (pushed, list.map-append (byte_in t) old (c ∷ []), so_far, list.take_more bytes i 0 more, list.append_assoc first (take i bytes) (byte_in t c ∷ []), here) refl
 
+-- turned twice, bytes are as they were
 pub reversed_twice : (bytes : List ℕ) → reverse (reverse bytes) ≡ bytes
 reversed_twice bytes = list.reverse-reverse bytes

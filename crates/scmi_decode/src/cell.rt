@@ -1,7 +1,7 @@
 //! The bytes of a dump in either order of digits, and what its column of text shows.
-ghost use Rattle.std.specs.Prelude.{◌≡◌, IfOk};
+ghost use Rattle.std.specs.Prelude.{◌≡◌, ◌++◌, if◌then◌else◌, false, true, reverse, IfOk, OnOk};
 ghost use Rattle.std.specs.Option.{option_map};
-ghost use Rattle.scmi_decode.specs.Cell.{are_alike, byte_in, bytes_in, character_of, first_byte, is_zero_in, later_bytes, order_shown, settled, shows};
+ghost use Rattle.scmi_decode.specs.Cell.{are_alike, byte_in, bytes_in, cells_of, character_of, first_byte, is_zero_in, later_bytes, order_shown, settled, shows};
 
 use crate::order::Order;
 use std::alloc::{AllocError, Global};
@@ -18,8 +18,44 @@ pub(crate) struct Cell {
     pub(crate) shown: u8,
 }
 
+/// Adds the cells of bytes, which are turned in both orders if they are a number.
+pub(crate) fn add_bytes(
+    cells: &mut Vec<Cell>,
+    is_number: bool,
+    bytes: &[u8],
+) -> Result<(), AllocError>
+    ensures straight { OnOk result (bytes_in false cells.new.items ≡ bytes_in false cells.old.items
+        ++ (if is_number then reverse bytes.now else bytes.now)) }
+    ensures turned { OnOk result
+        (bytes_in true cells.new.items ≡ bytes_in true cells.old.items ++ reverse bytes.now) }
+{
+    let count = bytes.len();
+    'bytes: for place in 0..count {
+        let turned = bytes[count - 1 - place];
+        let straight = if is_number { turned } else { bytes[place] };
+        cells.push(Cell {
+            straight,
+            turned,
+            shown: 0,
+        })?;
+    }
+    Ok(())
+}
+
+/// Notes what a column of text shows of cells.
+pub(crate) fn show(cells: &mut Vec<Cell>, shown: &[u8])
+    ensures { cells.new.items ≡
+        cells_of (bytes_in false cells.old.items) (bytes_in true cells.old.items) shown.now }
+{
+    let mut rest = shown;
+    'cells: for place in 0..cells.len() {
+        cells[place].shown = first_byte(rest);
+        rest = later_bytes(rest);
+    }
+}
+
 /// The first byte, 0 of none.
-pub(crate) fn first_byte(bytes: &[u8]) -> u8
+fn first_byte(bytes: &[u8]) -> u8
     ensures { result ≡ first_byte bytes.now }
 {
     match bytes {

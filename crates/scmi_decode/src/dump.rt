@@ -1,14 +1,17 @@
 //! The bytes of a line of a dump.
-ghost use Rattle.std.specs.Prelude.{◌≡◌, ◌/◌, [], IfOk, map, length};
+ghost use Rattle.std.specs.Prelude.{◌≡◌, ◌/◌, [], false, true, IfOk, map, length};
 ghost use Rattle.std.specs.Option.{option_map};
-ghost use Rattle.scmi_decode.specs.Dump.{Adds, bytes_of, digits_of, is_number, has_mark, item_bytes, items_bytes};
+ghost use Rattle.scmi_decode.specs.Cell.{bytes_in};
+ghost use Rattle.scmi_decode.specs.Dump.{Adds, bytes_of, digits_of, is_number, has_mark, item_bytes, items_bytes, line_bytes};
 
+use crate::cell::{Cell, add_bytes};
+use crate::lines::is_gap;
 use crate::row::ROW_BYTES;
 use hex::FromHexError;
 use std::alloc::{AllocError, Global};
 
 /// An item of at most this many digits takes no memory of its own (own).
-pub(crate) const SHORT_DIGITS: usize = 64;
+const SHORT_DIGITS: usize = 64;
 
 /// The bytes of items, in order, `None` if an item of them is of another form. An item is bytes of two
 /// hexadecimal digits each; or a number, its lowest byte first: `0x` and digits, or any digits if
@@ -28,6 +31,47 @@ pub(crate) fn items_bytes(
         }
     }
     Ok(Some(all))
+}
+
+/// The cells of a line, of which no column of text shows anything yet; `None` if an item of it has no
+/// bytes. The only error is out of memory.
+pub(crate) fn line_cells(alloc: Global, line: &[u8]) -> Result<Option<Vec<Cell>>, AllocError>
+    ensures { IfOk result (λ found.
+        (option_map (λ cells. bytes_in false cells.items) found ≡ line_bytes false line.now)
+        × (option_map (λ cells. bytes_in true cells.items) found ≡ line_bytes true line.now)) }
+{
+    let mut cells = Vec::with_capacity(alloc, ROW_BYTES)?;
+    'items: for item in line.split(|byte| is_gap(*byte)) {
+        if !add_cells(alloc, &mut cells, item)? {
+            return Ok(None);
+        }
+    }
+    Ok(Some(cells))
+}
+
+/// Adds the cells of an item, and gives whether it has bytes.
+fn add_cells(alloc: Global, cells: &mut Vec<Cell>, item: &[u8]) -> Result<bool, AllocError>
+    ensures straight { IfOk result (λ added. Adds (item_bytes false item.now) added
+        (bytes_in false cells.old.items) (bytes_in false cells.new.items)) }
+    ensures turned { IfOk result (λ added. Adds (item_bytes true item.now) added
+        (bytes_in true cells.old.items) (bytes_in true cells.new.items)) }
+{
+    let is_number = has_mark(item);
+    let digits = digits_of(item);
+    if digits.len() > SHORT_DIGITS {
+        let Some(bytes) = bytes_of(alloc, digits)? else {
+            return Ok(false);
+        };
+        add_bytes(cells, is_number, &bytes)?;
+        return Ok(true);
+    }
+    let mut buffer = [0; SHORT_DIGITS / 2];
+    let bytes = &mut buffer[..digits.len() / 2];
+    if !decode_digits(digits, bytes) {
+        return Ok(false);
+    }
+    add_bytes(cells, is_number, bytes)?;
+    Ok(true)
 }
 
 /// Adds the bytes of an item, and gives whether it has some.
@@ -65,7 +109,7 @@ fn add_long(alloc: Global, turned: bool, all: &mut Vec<u8>, item: &[u8]) -> Resu
 }
 
 /// Decodes digits, two for each byte, into as many bytes, and gives whether they are digits.
-pub(crate) fn decode_digits(digits: &[u8], bytes: &mut [u8]) -> bool
+fn decode_digits(digits: &[u8], bytes: &mut [u8]) -> bool
     requires room { length bytes.old ≡ length digits.now / 2 }
     ensures { Adds (bytes_of digits.now) result [] bytes.new }
 {
@@ -81,7 +125,7 @@ fn is_number(turned: bool, item: &[u8]) -> bool
 }
 
 /// The digits of an item, after its mark.
-pub(crate) fn digits_of(item: &[u8]) -> &[u8]
+fn digits_of(item: &[u8]) -> &[u8]
     ensures { result.now ≡ digits_of item.now }
 {
     if has_mark(item) { &item[2..] } else { item }

@@ -176,7 +176,10 @@ impl DumpEnd {
         ensures { OnOk result (self.new ≡ extended self.old row.now) }
     {
         self.cells.extend_from_slice(row.cells())?;
-        self.bare.extend_from_slice(row_bare(row))?;
+        let bare = row_bare(row);
+        if !bare.is_empty() {
+            self.bare.extend_from_slice(bare)?;
+        }
         self.next = address_after(row);
         self.group = row.group();
         self.column = column_with(self.column, row);

@@ -1,29 +1,24 @@
 //! In which order the digits of the groups of a row are.
-ghost use Rattle.std.specs.Prelude.{◌≡◌};
-ghost use Rattle.scmi_decode.specs.GroupOrder.{are_bits, beside_text, data_order, gap_before, group_of, groups_order, half_order, has_bits_alone, is_bit, is_long, long_order, order_of};
+ghost use Rattle.std.specs.Prelude.{◌≡◌, ◌==◌, length, not};
+ghost use Rattle.scmi_decode.specs.GroupOrder.{are_bits, beside_text, gap_before, group_of, half_order, has_bits_alone, is_bit, is_long, long_order, order_of};
+ghost use Rattle.scmi_decode.specs.Scan.{after_gap};
 
 use crate::dump::has_mark;
 use crate::form::Form;
 use crate::lines::is_gap;
 use crate::order::Order;
 use crate::parts::without_return;
-use crate::scan::{after_gap, after_item, first_item, gap_length};
+use crate::scan::{after_gap, first_item, gap_length};
 
-/// The order of the digits of data, if no column shows it.
-pub(crate) fn data_order(form: Form, groups: &[u8], column: &[u8]) -> Order
-    ensures { result ≡ data_order form groups.now column.now }
+/// The order of the digits of data, by their first group, what follows it, and the column of text, if
+/// that does not show it.
+pub(crate) fn data_order(form: Form, group: usize, behind: &[u8], column: &[u8]) -> Order
+    ensures { result ≡ beside_text form (not (length column.now == 0))
+        (order_of form group (gap_before column.now) (length (after_gap behind.now) == 0)) }
 {
-    let order = groups_order(form, groups, gap_before(column));
+    let is_alone = after_gap(behind).is_empty();
+    let order = order_of(form, group, gap_before(column), is_alone);
     beside_text(form, !column.is_empty(), order)
-}
-
-/// The order of groups of data, by the spaces before their column of text.
-fn groups_order(form: Form, groups: &[u8], gap: usize) -> Order
-    ensures { result ≡ groups_order form groups.now gap }
-{
-    let group = group_of(first_item(groups));
-    let is_alone = after_gap(after_item(groups)).is_empty();
-    order_of(form, group, gap, is_alone)
 }
 
 /// An order, beside a column of text or not: od prints numbers in either byte order, so only the

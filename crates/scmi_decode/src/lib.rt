@@ -26,7 +26,6 @@ mod group_order;
 mod held_row;
 mod layout;
 mod line;
-mod line_cells;
 mod lines;
 mod message_area;
 mod message_line;

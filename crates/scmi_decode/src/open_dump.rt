@@ -16,7 +16,7 @@ use crate::order::Order;
 use crate::reading::{Reading, rows_reading};
 use crate::readings::{Readings, Unsaid};
 use crate::row::Row;
-use crate::scan::{first_item, has_one_item};
+use crate::scan::{after_gap, has_one_item, item_length};
 use std::alloc::{AllocError, Global};
 use std::marker::Model;
 
@@ -270,10 +270,11 @@ impl OpenDump {
     pub(crate) fn is_star(&self, line: &[u8]) -> bool
         ensures { result ≡ is_star self.now line.now }
     {
-        let item = first_item(line);
-        (self.held.is_held() || self.is_open())
-            && item.len() == 1
-            && item[0] == b'*'
+        let text = after_gap(line);
+        !text.is_empty()
+            && text[0] == b'*'
+            && (self.held.is_held() || self.is_open())
+            && item_length(text) == 1
             && has_one_item(line)
     }
 

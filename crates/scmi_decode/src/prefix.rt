@@ -14,7 +14,8 @@ use crate::scan::first_item;
 pub(crate) fn without_prefix(line: &[u8]) -> &[u8]
     ensures { result.now ≡ without_prefix line.now }
 {
-    if is_bare_address(first_item(line)) {
+    let begins = !line.is_empty() && !is_gap(line[0]);
+    if begins && begins_with_address(line) || is_bare_address(first_item(line)) {
         return line;
     }
     match from_address(line) {

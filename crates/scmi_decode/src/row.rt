@@ -1,18 +1,19 @@
 //! A row of a dump.
-ghost use Rattle.std.specs.Prelude.{◌≡◌, IfOk};
+ghost use Rattle.std.specs.Prelude.{◌≡◌, if◌then◌else◌, IfOk};
 ghost use Rattle.std.specs.Option.{option_map};
-ghost use Rattle.scmi_decode.specs.Row.{address_of, base_of, column_text, data_cells, data_column, form_cells, item_column, offset_row, parts_row, row_of, row_with, shown_of, word_bytes_of, word_cells};
+ghost use Rattle.scmi_decode.specs.FirstColumn.{no_column};
+ghost use Rattle.scmi_decode.specs.GroupOrder.{is_long};
+ghost use Rattle.scmi_decode.specs.Row.{address_of, base_of, column_text, data_cells, form_cells, item_column, offset_row, parts_row, row_of, row_with, shown_of, word_bytes_of, word_cells};
 
-use crate::cell::Cell;
-use crate::dump::has_mark;
+use crate::cell::{Cell, add_bytes, show};
+use crate::dump::{has_mark, line_cells};
 use crate::first_column::{FirstColumn, no_column};
 use crate::form::Form;
 use crate::group_order::{are_bits, data_order, group_of, is_long};
-use crate::line_cells::{add_bytes, line_cells, show};
 use crate::number::{number_from, without_mark};
 use crate::order::Order;
 use crate::parts::{parts_of, without_return};
-use crate::scan::first_item;
+use crate::scan::{first_item, item_and_rest};
 use std::alloc::{AllocError, Global};
 use std::marker::Model;
 
@@ -139,9 +140,13 @@ fn parts_row(
     let Some(address) = address_of(form, digits) else {
         return Ok(None);
     };
-    let group = group_of(first_item(groups));
-    let order = data_order(form, groups, column);
-    let addresses = data_column(form, groups);
+    let (item, behind) = item_and_rest(groups);
+    let group = group_of(item);
+    let order = data_order(form, group, behind, column);
+    let addresses = match form {
+        Form::Plain => long_column(group, item),
+        _ => no_column(),
+    };
     match form_cells(alloc, form, groups, column)? {
         Some(cells) => Ok(row_with(form, address, group, order, addresses, cells)),
         None => Ok(None),
@@ -237,13 +242,12 @@ fn row_with(
     })
 }
 
-/// The first item of data as an address, if the row has none before them and it may be one: it has
-/// eight or sixteen digits, as the numbers after it may have.
-fn data_column(form: Form, groups: &[u8]) -> FirstColumn
-    ensures { result ≡ data_column form groups.now }
+/// The first item of rows without addresses as an address, if it may be one: it has eight or sixteen
+/// digits, as the numbers after it may have.
+fn long_column(group: usize, item: &[u8]) -> FirstColumn
+    ensures { result ≡ (if is_long group then item_column item.now else no_column) }
 {
-    let item = first_item(groups);
-    if form == Form::Plain && is_long(group_of(item)) {
+    if is_long(group) {
         item_column(item)
     } else {
         no_column()

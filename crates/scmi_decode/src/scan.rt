@@ -1,8 +1,19 @@
 //! The items of a line, from its begin on.
-ghost use Rattle.std.specs.Prelude.{◌≡◌, ◌≤◌, length};
+ghost use Rattle.std.specs.Prelude.{◌≡◌, ◌≤◌, length, nat_eq};
+ghost use Rattle.std.specs.List.{starts_with};
 ghost use Rattle.scmi_decode.specs.Scan.{gap_length, item_length, after_gap, first_item, after_item, column_length, bar_length, begins_with_space, pipe_length, behind_colon, after_cursor, has_one_item};
 
 use crate::lines::is_gap;
+
+/// Whether a line begins with a text; most do not have its first byte.
+pub(crate) fn begins_with(line: &[u8], text: &[u8]) -> bool
+    ensures { result ≡ starts_with nat_eq line.now text.now }
+{
+    match (line, text) {
+        ([byte, ..], [own, ..]) if *byte != *own => false,
+        _ => line.starts_with(text),
+    }
+}
 
 /// How many bytes of the gap at the begin.
 pub(crate) fn gap_length(line: &[u8]) -> usize

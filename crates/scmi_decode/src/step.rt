@@ -14,6 +14,7 @@ use crate::open_dump::OpenDump;
 use crate::reading::has_wide_marks;
 use crate::readings::Readings;
 use crate::row::{Row, row_of};
+use crate::scan::begins_with;
 use std::alloc::{AllocError, Global};
 
 /// How the lines begin that are skipped: a comment, and what `devmem2` prints beside each number.
@@ -220,5 +221,5 @@ fn close<S: Findings>(alloc: Global, sink: &mut S, dump: &mut OpenDump) -> Resul
 fn is_remark(line: &[u8]) -> bool
     ensures { result ≡ is_remark line.now }
 {
-    line.starts_with(REMARK) || line.starts_with(OPENED) || line.starts_with(MAPPED)
+    begins_with(line, REMARK) || begins_with(line, OPENED) || begins_with(line, MAPPED)
 }

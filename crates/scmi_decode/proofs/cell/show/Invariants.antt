@@ -1,6 +1,6 @@
 use Rattle.std.proofs.Common.{◌≡◌, ◌++◌, drop, false, length, take, true}
 use Rattle.scmi_decode.specs.Cell.{bytes_in, cells_of}
-use Rattle.scmi_decode.proofs.line_cells.show.Given as goal
+use Rattle.scmi_decode.proofs.cell.show.Given as goal
 
 abbrev pub invariant-cells : goal.invariant-cells
 invariant-cells l = record {

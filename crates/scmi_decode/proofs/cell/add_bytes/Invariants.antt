@@ -1,6 +1,6 @@
 use Rattle.std.proofs.Common.{◌≡◌, ◌++◌, if◌then◌else◌, false, true, reverse, take}
 use Rattle.scmi_decode.specs.Cell.{bytes_in}
-use Rattle.scmi_decode.proofs.line_cells.add_bytes.Given as goal
+use Rattle.scmi_decode.proofs.cell.add_bytes.Given as goal
 
 abbrev pub invariant-bytes : goal.invariant-bytes
 invariant-bytes l = record {

@@ -1,7 +1,7 @@
 use Rattle.std.proofs.Common.{◌≡◌, false, map, Some, true}
 use Rattle.scmi_decode.specs.Cell.{bytes_in}
 use Rattle.scmi_decode.specs.Dump.{items_bytes}
-use Rattle.scmi_decode.proofs.line_cells.line_cells.Given as goal
+use Rattle.scmi_decode.proofs.dump.line_cells.Given as goal
 
 abbrev pub invariant-items : goal.invariant-items
 invariant-items l = record {

@@ -1,8 +1,8 @@
 use Rattle.std.proofs.Common.{◌∙◌, ◌<◌, false, length, reverse, sym, true}
 use Rattle.std.proofs.lemmas.List as list
 use Rattle.scmi_decode.proofs.Items as items
-use Rattle.scmi_decode.proofs.line_cells.add_bytes.Goals as goal
-use Rattle.scmi_decode.proofs.line_cells.add_bytes.Goals.{then-is_number, else-is_number}
+use Rattle.scmi_decode.proofs.cell.add_bytes.Goals as goal
+use Rattle.scmi_decode.proofs.cell.add_bytes.Goals.{then-is_number, else-is_number}
 
 pub bytes-preserved : goal.bytes-preserved
 bytes-preserved c =
