@@ -139,8 +139,7 @@ fn judge_of(alloc: Global, text: &[u8], plan: &Plan, unseen: Unseen) -> Result<J
     'kept: for _kept in 0..LOOK_BACK {
         let before = again(alloc, text, plan)?;
         let between = again(alloc, text, plan)?;
-        let now = again(alloc, text, plan)?;
-        judge.add_look_back(before, between, now)?;
+        judge.add_look_back(before, between)?;
     }
     Ok(judge)
 }

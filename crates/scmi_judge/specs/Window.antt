@@ -13,4 +13,3 @@ pub record AreKept (board : Board) (k : Kept) : Type 0 where
 pub record IsOfWindow (board : Board) (w : Window) : Type 0 where
   pub before : AreKept board w.before
   pub between : AreKept board w.between
-  pub now : AreKept board w.now

@@ -44,10 +44,10 @@ impl Entry {
     pub fn is_from_platform(&self) -> bool
         ensures { result ≡ is_from_platform self.now }
     {
-        match self {
-            Entry::Answered { .. } | Entry::Delivered { .. } | Entry::Replied { .. } => true,
-            Entry::Asked { .. } | Entry::GivenUp { .. } => false,
-        }
+        matches!(
+            self,
+            Entry::Answered { .. } | Entry::Delivered { .. } | Entry::Replied { .. }
+        )
     }
 
     /// The same entry again. It takes no memory.

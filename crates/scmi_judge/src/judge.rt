@@ -97,12 +97,11 @@ impl Judge {
         Ok(())
     }
 
-    /// Makes places for one more platform that may be looked back to, before the first entry: of each
-    /// of three times. `Memory` is the only error.
-    pub fn add_look_back(&mut self, before: Plan, between: Plan, now: Plan) -> Result<(), CoreError>
+    /// Makes places for one more platform that may be looked back to, of two times, before the first
+    /// entry. `Memory` is the only error.
+    pub fn add_look_back(&mut self, before: Plan, between: Plan) -> Result<(), CoreError>
         requires before { before ≡ self.old.board }
         requires between { between ≡ self.old.board }
-        requires now { now ≡ self.old.board }
         ensures knows { (entries : List Shown) → Knows self.old entries → Knows self.new entries }
         ensures board { self.new.board ≡ self.old.board }
         ensures unseen { self.new.unseen ≡ self.old.unseen }
@@ -113,11 +112,10 @@ impl Judge {
         let alloc = *self.guesses.spare.allocator();
         let before = Place::new(alloc, before)?;
         let between = Place::new(alloc, between)?;
-        let now = Place::new(alloc, now)?;
-        match self.window.add(before, between, now, &self.guesses.left) {
-            Ok(()) => Ok(()),
-            Err(_) => Err(CoreError::Memory),
-        }
+        let Ok(()) = self.window.add(before, between, &self.guesses.left) else {
+            return Err(CoreError::Memory);
+        };
+        Ok(())
     }
 
     /// Judges the next entry. If the entries so far have a legal history, the verdict is `Same` if

@@ -30,11 +30,6 @@ impl Guesses {
         ensures places { OnOk result (places self.new ≡ places self.old) }
         ensures memory { IfErr result (λ stop. stop ≡ Stop.Memory) }
     {
-        window.back = None;
-        if !window.now.keep(&self.left)? {
-            self.pass_over(entry)?;
-            return window.begin(&self.left);
-        }
         window.back = self.explain(window, entry)?;
         window.begin(&self.left)
     }
@@ -44,21 +39,47 @@ impl Guesses {
     fn explain(&mut self, window: &Window, entry: &Entry) -> Result<Option<usize>, Stop>
         requires boards { (board : Board) × AreOfBoard board self.old
             × IsOfWindow board window.now }
+        requires tried { self.old.tried.items ≡ [] }
+        requires others { self.old.others.items ≡ [] }
         ensures keeps { KeepBoard self.old self.new }
         ensures tried { OnOk result (self.new.tried.items ≡ []) }
         ensures others { OnOk result (self.new.others.items ≡ []) }
-        ensures places { OnOk result (places self.new ≡ all_places self.old) }
+        ensures places { OnOk result (places self.new ≡ places self.old) }
         ensures memory { IfErr result (λ stop. stop ≡ Stop.Memory) }
     {
+        if window.between.guesses.is_empty() {
+            self.pass_over(entry)?;
+            return Ok(None);
+        }
         'entries: for before in 0..window.len() {
             let back = before.saturating_add(1);
             if self.is_explained(window, back, entry)? {
                 return Ok(Some(back));
             }
         }
-        self.go_back(&window.now.guesses)?;
-        self.pass_over(entry)?;
+        self.come_again(window, entry)?;
         Ok(None)
+    }
+
+    /// Comes to an entry again, from what was kept, and passes it over.
+    fn come_again(&mut self, window: &Window, entry: &Entry) -> Result<(), Stop>
+        requires boards { (board : Board) × AreOfBoard board self.old
+            × IsOfWindow board window.now }
+        ensures keeps { KeepBoard self.old self.new }
+        ensures tried { OnOk result (self.new.tried.items ≡ []) }
+        ensures others { OnOk result (self.new.others.items ≡ []) }
+        ensures places { OnOk result (places self.new ≡ all_places self.old) }
+        ensures memory { IfErr result (λ stop. stop ≡ Stop.Memory) }
+    {
+        self.go_back(&window.between.guesses)?;
+        // There were places enough before, so it does not go back once more.
+        if !self.gives_all(&window.newer, window.newer.len())? {
+            return self.go_back(&window.between.guesses);
+        }
+        if !self.pass_on(entry)? {
+            return self.go_back(&window.between.guesses);
+        }
+        Ok(())
     }
 
     /// Whether the entry that is noted so many back explains an entry: whether all entries behind it
@@ -148,6 +169,20 @@ impl Guesses {
         if !entry.is_from_platform() {
             return Ok(false);
         }
+        self.pass_on(entry)
+    }
+
+    /// The same of any entry.
+    fn pass_on(&mut self, entry: &Entry) -> Result<bool, Stop>
+        requires boards { HaveBoard self.old }
+        requires tried { self.old.tried.items ≡ [] }
+        requires others { self.old.others.items ≡ [] }
+        ensures keeps { KeepBoard self.old self.new }
+        ensures places { OnOk result (all_places self.new ≡ all_places self.old) }
+        ensures tried { IfOk result (λ fits. fits ≡ true → self.new.tried.items ≡ []) }
+        ensures others { IfOk result (λ fits. fits ≡ true → self.new.others.items ≡ []) }
+        ensures memory { IfErr result (λ stop. stop ≡ Stop.Memory) }
+    {
         match self.close() {
             Ok(()) => {}
             Err(Stop::Full) => return Ok(false),

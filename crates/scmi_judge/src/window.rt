@@ -25,8 +25,6 @@ pub(crate) struct Window {
     // What was left before the newer ones.
     pub between: Kept,
     pub newer: Vec<Entry>,
-    // What was left before an entry that differs.
-    pub now: Kept,
     // How many entries before the last one that differed the one is that explains it.
     pub back: Option<usize>,
 }
@@ -41,30 +39,21 @@ impl Window {
             older: Vec::new(alloc),
             between: Kept::new(alloc),
             newer: Vec::new(alloc),
-            now: Kept::new(alloc),
             back: None,
         }
     }
 
     /// One place more for each time, before the first entry, at which these guesses are left.
-    pub fn add(
-        &mut self,
-        before: Place,
-        between: Place,
-        now: Place,
-        left: &[Place],
-    ) -> Result<(), Stop>
+    pub fn add(&mut self, before: Place, between: Place, left: &[Place]) -> Result<(), Stop>
         requires { (board : Board) × IsOfWindow board self.old × IsOfBoard board left.now
-            × (before.platform.board ≡ board) × (between.platform.board ≡ board)
-            × (now.platform.board ≡ board) }
+            × (before.platform.board ≡ board) × (between.platform.board ≡ board) }
         ensures boards { (board : Board) → IsOfWindow board self.old
             → before.platform.board ≡ board → between.platform.board ≡ board
-            → now.platform.board ≡ board → IsOfWindow board self.new }
+            → IsOfWindow board self.new }
         ensures memory { IfErr result (λ stop. stop ≡ Stop.Memory) }
     {
         self.before.add(before)?;
         self.between.add(between)?;
-        self.now.add(now)?;
         self.begin(left)
     }
 

@@ -9,8 +9,19 @@ invariant_of-self c =
       boards = c.self.invariant.boards;
       window = c.add.ensures.boards c.self.inside.guesses.made.platform.board
           c.self.invariant.window (c.in_ok-before.ensures.board ∙ c.requires.before ∙ board)
-          (c.in_ok-between.ensures.board ∙ c.requires.between ∙ board)
-          (c.in_ok-now.ensures.board ∙ c.requires.now ∙ board);
+          (c.in_ok-between.ensures.board ∙ c.requires.between ∙ board);
+      tried = c.self.invariant.tried;
+      others = c.self.invariant.others;
+    }
+
+pub invariant_of-self-2 : goal.invariant_of-self-2
+invariant_of-self-2 c =
+    let board = sym (ap (λ (j : Judging). j.board) c.self.view_is) in
+    record {
+      boards = c.self.invariant.boards;
+      window = c.add.ensures.boards c.self.inside.guesses.made.platform.board
+          c.self.invariant.window (c.in_ok-before.ensures.board ∙ c.requires.before ∙ board)
+          (c.in_ok-between.ensures.board ∙ c.requires.between ∙ board);
       tried = c.self.invariant.tried;
       others = c.self.invariant.others;
     }

@@ -7,7 +7,6 @@ returns-in_err-keep-clause-boards c = λ board of. record {
   before = subst (AreKept board) (sym c.swap.ensures.x_after) of.between;
   between = c.keep.ensures.boards board
       (subst (AreKept board) (sym c.swap.ensures.y_after) of.before);
-  now = of.now;
 }
 
 pub returns-clause-boards : goal.returns-clause-boards
@@ -15,5 +14,4 @@ returns-clause-boards c = λ board of. record {
   before = subst (AreKept board) (sym c.swap.ensures.x_after) of.between;
   between = c.keep.ensures.boards board
       (subst (AreKept board) (sym c.swap.ensures.y_after) of.before);
-  now = of.now;
 }

@@ -4,5 +4,4 @@ pub returns : goal.returns
 returns c = λ board. record {
   before = c.new.ensures board;
   between = c.new-3.ensures board;
-  now = c.new-5.ensures board;
 }
