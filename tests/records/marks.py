@@ -12,7 +12,7 @@ from texts import Answered
 LEAST = 16
 # A check keeps only some states as it looks back, so it may find nothing, or a line that is not as near. It has to find
 # a line if there are no more than these: on the way from it, and before each candidate.
-FEW, FEW_BEFORE = 8, 8
+FEW, FEW_BEFORE = 32, 32
 
 
 class Marked(NamedTuple):

@@ -17,16 +17,13 @@ use crate::under_way::Check;
 use scmi_board::{TextLine, read_valid_board};
 use scmi_core::CoreError;
 use scmi_io::{CountedReader, Input, InputError, read_rest};
-use scmi_judge::{Judge, Unseen};
+use scmi_judge::{GOING_ON, Judge, Unseen};
 use scmi_plan::Plan;
 use std::alloc::Global;
 use std::io::Read;
 
 /// The most platforms that are kept, beside one, of those that may be behind a record.
 pub const PLACES: usize = 255;
-
-/// The most platforms that may be looked back to, to explain a difference.
-const LOOK_BACK: usize = 8;
 
 /// Checks a record of a platform of a board, line by line, however long it is. The listener is given
 /// the verdict on each entry, and each note, as soon as the line is read.
@@ -136,7 +133,7 @@ fn judge_of(alloc: Global, text: &[u8], plan: &Plan, unseen: Unseen) -> Result<J
     'places: for _place in 0..PLACES {
         judge.add_place(again(alloc, text, plan)?)?;
     }
-    'kept: for _kept in 0..LOOK_BACK {
+    'kept: for _kept in 0..GOING_ON {
         let before = again(alloc, text, plan)?;
         let between = again(alloc, text, plan)?;
         judge.add_look_back(before, between)?;

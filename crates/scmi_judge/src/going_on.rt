@@ -15,9 +15,9 @@ use scmi_codec::{Answer, Frame, Message};
 use scmi_core::{Effect, Platform};
 use std::mem;
 
-/// The most guesses that are left after an entry that differs. Nothing is promised from there on,
-/// and each guess costs a step of every later entry.
-const GOING_ON: usize = 8;
+/// The most platforms that a judge goes on with after an entry that differs, and looks back to.
+/// Nothing is promised from there on, and each of them costs a step of every later entry.
+pub const GOING_ON: usize = 32;
 
 impl Guesses {
     /// Passes over an entry that none of the guesses gives.

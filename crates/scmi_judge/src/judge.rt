@@ -98,7 +98,7 @@ impl Judge {
     }
 
     /// Makes places for one more platform that may be looked back to, of two times, before the first
-    /// entry. `Memory` is the only error.
+    /// entry; more than `GOING_ON` are of no use. `Memory` is the only error.
     pub fn add_look_back(&mut self, before: Plan, between: Plan) -> Result<(), CoreError>
         requires before { before ≡ self.old.board }
         requires between { between ≡ self.old.board }

@@ -30,6 +30,7 @@ mod window;
 pub use due::in_place;
 pub use entry::Entry;
 pub use exact_sets::every_exact_set;
+pub use going_on::GOING_ON;
 pub use judge::Judge;
 pub use outstanding::OUTSTANDING;
 pub use records::every_record;
