@@ -9,9 +9,10 @@ use crate::entry::Entry;
 use crate::guess::Guess;
 use crate::guesses::{Guesses, has};
 use crate::place::Place;
-use crate::shown::{has_succeeded, set_shown};
+use crate::same::is_same_answer;
+use crate::shown::{has_succeeded, set_shown, sets_value};
 use crate::stop::Stop;
-use scmi_codec::{Answer, Frame, Message};
+use scmi_codec::{Answer, Command, Frame, Message};
 use scmi_core::{Effect, Platform};
 use std::mem;
 
@@ -72,7 +73,9 @@ impl Guesses {
         self.made.pass(entry);
         self.keep_new()?;
         self.made.copy_from(guess);
-        self.made.give_value(entry);
+        if !self.made.give_value(entry) {
+            return Ok(());
+        }
         self.keep_new()
     }
 
@@ -154,13 +157,13 @@ impl Guess {
     }
 
     /// Gives the value that a reply of success shows to its domain or clock, by an agent that may
-    /// set it, if there is one and no agent is notified of that.
-    pub fn give_value(&mut self, entry: &Entry)
+    /// set it, if there is one and no agent is notified of that. Whether it has that value then.
+    pub fn give_value(&mut self, entry: &Entry) -> bool
         ensures { self.new.platform.board ≡ self.old.platform.board }
     {
         self.free_place(entry);
         let Some(set) = value_of(entry) else {
-            return;
+            return false;
         };
         let frame = Frame::Good(set);
         let mut agent = self.platform.agents();
@@ -168,10 +171,49 @@ impl Guess {
             if may_set(&self.platform, agent, &frame) {
                 let mut reply = Message::default();
                 let _ = self.platform.command(agent, &frame, &mut reply);
-                return;
+                return self.has_value(entry);
             }
             agent -= 1;
         }
+        false
+    }
+
+    /// Whether an entry shows a value that was set, or that is read so. A rate that a clock can't
+    /// have was rounded.
+    fn has_value(&mut self, entry: &Entry) -> bool
+        ensures { self.new.platform.board ≡ self.old.platform.board }
+    {
+        match entry {
+            Entry::Answered {
+                agent,
+                frame,
+                answer,
+            }
+            | Entry::Replied {
+                agent,
+                frame,
+                answer,
+                ..
+            } => is_set(frame) || self.gives_answer(*agent, frame, answer),
+            Entry::Delivered { .. } | Entry::Asked { .. } | Entry::GivenUp { .. } => false,
+        }
+    }
+
+    fn gives_answer(&mut self, agent: u32, frame: &Frame, answer: &Answer) -> bool
+        ensures { self.new.platform.board ≡ self.old.platform.board }
+    {
+        match self.executed(agent, frame) {
+            Some(given) => is_same_answer(&given, answer),
+            None => false,
+        }
+    }
+}
+
+/// Whether a frame is a command that sets a value.
+fn is_set(frame: &Frame) -> bool {
+    match frame {
+        Frame::Good(command) => sets_value(&Command::read(command)),
+        Frame::Malformed { .. } => false,
     }
 }
 

@@ -98,10 +98,10 @@ impl Place {
     }
 
     /// `Guess::give_value`.
-    pub fn give_value(&mut self, entry: &Entry)
+    pub fn give_value(&mut self, entry: &Entry) -> bool
         ensures { self.new.platform.board ≡ self.old.platform.board }
     {
-        self.guess.give_value(entry);
+        self.guess.give_value(entry)
     }
 
     /// `Guess::free_place`.
