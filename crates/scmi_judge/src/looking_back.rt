@@ -6,12 +6,14 @@ ghost use Rattle.scmi_judge.specs.Exact.{IsOfBoard};
 ghost use Rattle.scmi_judge.specs.Guesses.{AreOfBoard, HaveBoard, KeepBoard, all_places, places};
 ghost use Rattle.scmi_judge.specs.Window.{IsOfWindow};
 
+use crate::due::in_place;
 use crate::entry::Entry;
 use crate::guesses::Guesses;
 use crate::place::Place;
 use crate::stop::Stop;
 use crate::verdict::Verdict;
 use crate::window::Window;
+use scmi_codec::Answer;
 use std::mem;
 
 impl Guesses {
@@ -154,8 +156,8 @@ impl Guesses {
         }
     }
 
-    /// Passes over an entry as one that differs, whatever it shows; `false` if the platform gives
-    /// nothing there, or if more platforms may be behind it than there are places.
+    /// Passes over an entry without a look at what it shows; `false` if the platform gives nothing
+    /// there, or if more platforms may be behind it than there are places.
     fn doubt(&mut self, entry: &Entry) -> Result<bool, Stop>
         requires boards { HaveBoard self.old }
         requires tried { self.old.tried.items ≡ [] }
@@ -169,10 +171,11 @@ impl Guesses {
         if !entry.is_from_platform() {
             return Ok(false);
         }
-        self.pass_on(entry)
+        // An answer that shows no value.
+        self.pass_on(&in_place(entry, &Verdict::Answer(Answer::Released)))
     }
 
-    /// The same of any entry.
+    /// Passes over an entry as one that differs.
     fn pass_on(&mut self, entry: &Entry) -> Result<bool, Stop>
         requires boards { HaveBoard self.old }
         requires tried { self.old.tried.items ≡ [] }
