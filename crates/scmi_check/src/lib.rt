@@ -17,6 +17,7 @@ mod counts;
 mod deciding;
 mod entry_name;
 mod event_shown;
+mod fields_text;
 mod finding;
 mod help;
 mod json;

@@ -1,4 +1,5 @@
 //! What was due and what was seen, as a line of a report has it.
+use crate::fields_text::{write_message_fields, write_reply_fields};
 use scmi_codec::{Answer, Message, Status};
 use scmi_judge::{Entry, Verdict};
 use scmi_text::write_message_text;
@@ -21,7 +22,7 @@ pub(crate) fn write_reasons<W: Write>(
         }
         Verdict::Message(due) => {
             write!(writer, " expected")?;
-            write_message_text(writer, due)?;
+            write_message(writer, due)?;
         }
     }
     write!(writer, ", got")?;
@@ -29,17 +30,27 @@ pub(crate) fn write_reasons<W: Write>(
         Entry::Answered { answer, .. } | Entry::Replied { answer, .. } => {
             write_answer(writer, answer)
         }
-        Entry::Delivered { message, .. } => write_message_text(writer, message),
+        Entry::Delivered { message, .. } => write_message(writer, message),
         Entry::Asked { .. } | Entry::GivenUp { .. } => write!(writer, " a command"),
     }
 }
 
-/// Writes an answer; a reply with the name of the status that it begins with, if that is one.
+/// Writes a message of the platform, its fields first.
+fn write_message<W: Write>(writer: &mut W, message: &Message) -> io::Result<()> {
+    write_message_fields(writer, message)?;
+    write_message_text(writer, message)
+}
+
+/// Writes an answer; a reply with the name of the status that it begins with, if that is one, and
+/// its fields, if that is SUCCESS.
 fn write_answer<W: Write>(writer: &mut W, answer: &Answer) -> io::Result<()> {
     match answer {
         Answer::Reply(message) => {
             if let Some(status) = status_of_reply(message) {
                 write!(writer, " {}", status.name())?;
+                if status == Status::Success {
+                    write_reply_fields(writer, message)?;
+                }
             }
             write_message_text(writer, message)
         }

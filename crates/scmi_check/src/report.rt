@@ -5,6 +5,7 @@ use crate::check_error::CheckError;
 use crate::checked::Checked;
 use crate::counts::Counts;
 use crate::entry_name::entry_name;
+use crate::fields_text::write_command_fields;
 use crate::finding::Finding;
 use crate::help::Help;
 use crate::json::{write_json_counts, write_json_entry, write_json_note, write_json_unsure};
@@ -179,9 +180,10 @@ fn write_difference<W: Write>(writer: &mut W, one: &Judged, help: &Help) -> io::
 
 fn write_name<W: Write>(writer: &mut W, entry: &Entry) -> io::Result<()> {
     match entry_name(entry) {
-        Some(name) => write!(writer, " {name}"),
-        None => Ok(()),
+        Some(name) => write!(writer, " {name}")?,
+        None => {}
     }
+    write_command_fields(writer, entry)
 }
 
 /// What is written before the number of the line.
