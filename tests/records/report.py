@@ -12,8 +12,8 @@ HARDWARE = re.compile(r" by hardware\b")
 # The earlier line that alone explains a difference, and a mark that is no more.
 UNLESS = re.compile(r" unless (\d+)$")
 AFTER = re.compile(r" after \d+\b")
-# The reply that was due in place of one that is `own`.
-DUE = re.compile(r" expected \S+((?: 0x[0-9a-f]{8})+), got ")
+# The reply that was due in place of one that is `own`, whose fields may be before its words.
+DUE = re.compile(r" expected \S+(?: \(.*?\))?((?: 0x[0-9a-f]{8})+), got ")
 UNSURE = re.compile(r"(\d+) unsure, and judged no further")
 COUNTS = re.compile(r"(\d+) same, (\d+) own, (\d+) differ(, .*)?")
 # A check keeps so many states, and may be unsure only if there are more.
