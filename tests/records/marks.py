@@ -10,7 +10,7 @@ from texts import Answered
 
 # A check looks at so many entries at least.
 LEAST = 16
-# A check keeps 32 states as it looks back, and has more than these: in some of its own a command was executed before the
+# A check keeps 64 states as it looks back, and has more than these: in some of its own a command was executed before the
 # line of its answer. So it may find nothing, or a line that is not as near. It has to find a line if there are no more
 # than so many here: on the way from it, and before each candidate.
 FEW, FEW_BEFORE = 16, 16

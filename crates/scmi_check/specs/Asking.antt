@@ -26,7 +26,8 @@ nothing_asked = record { entries = []; asked = replicate OUTSTANDING None }
 
 -- one entry more, at the line of this number
 abbrev pub with_one : AskingView → ℕ → Entry → AskingView
-with_one asking line entry = record asking { entries = asking.entries ++ record { line = line; entry = entry } ∷ [] }
+with_one asking line entry =
+    record asking { entries = asking.entries ++ record { line = line; entry = entry } ∷ [] }
 
 -- whether a place is that of the command of this line
 abbrev pub is_of : ℕ → Option ℕ → Bool
@@ -61,9 +62,11 @@ with_place asking command (Some place) = record {
 
 -- whether a command is still to be asked: it is judged, and has no place yet
 abbrev pub is_to_ask : List ℕ → AskingView → Waiting → Bool
-is_to_ask judged asking command = is_frame_judged judged command.frame && not (is_some (place_of_line asking command.line))
+is_to_ask judged asking command =
+    is_frame_judged judged command.frame && not (is_some (place_of_line asking command.line))
 
--- a command that is answered later, at the first place that is free; if none is, it is executed at the place of its answer (own)
+-- a command that is answered later, at the first place that is free; if none is, it is executed at
+-- the place of its answer (own)
 unfoldable pub with_asked : List ℕ → AskingView → Waiting → AskingView
 with_asked judged asking command =
     if is_to_ask judged asking command then with_place asking command (position is_free asking.asked) else asking
@@ -71,7 +74,8 @@ with_asked judged asking command =
 -- the same of each of these commands, in order
 abbrev pub with_all_asked : List ℕ → AskingView → List Waiting → AskingView
 with_all_asked judged asking [] = asking
-with_all_asked judged asking (command ∷ commands) = with_all_asked judged (with_asked judged asking command) commands
+with_all_asked judged asking (command ∷ commands) =
+    with_all_asked judged (with_asked judged asking command) commands
 
 -- no answer comes to the command of a line, which has this place, if it has one
 abbrev pub without_answer : AskingView → ℕ → Option ℕ → AskingView

@@ -37,7 +37,10 @@ pub record RecordView : Type 0 where
 abbrev pub record_view : Record → RecordView
 record_view read = record { entries = read.entries.items; left = left_view read.left }
 
--- what lines show: entries at their lines, the line of the command at each place, what is not judged, the protocols that are judged, the commands whose answers are still to come, in order, and those of traces, the last response of a trace that answers no command, if no command of a trace is behind it, and the next token of each agent
+-- what lines show: entries at their lines, the line of the command at each place, what is not
+-- judged, the protocols that are judged, the commands whose answers are still to come, in order,
+-- and those of traces, the last response of a trace that answers no command, if no command of a
+-- trace is behind it, and the next token of each agent
 pub record Shows : Type 0 where
   pub entries : List Placed
   pub asked : List (Option ℕ)
@@ -137,7 +140,8 @@ with_waiting shows line a frame = record shows { waiting = shows.waiting ++ reco
 unfoldable pub with_posted : Shows → ℕ → ℕ → Frame → Option Shows
 with_posted shows line a frame = elim (position (is_by a) shows.waiting) [ None ↦ Some (with_waiting shows line a frame) | Some place ↦ None ]
 
--- the next token of an agent, as a session counts it, and what is shown once it is taken; none if no board has the agent
+-- the next token of an agent, as a session counts it, and what is shown once it is taken; none if
+-- no board has the agent
 unfoldable pub token_taken : Shows → ℕ → Option (ℕ × Shows)
 token_taken shows a =
     if nat_le 1 a && nat_le a AGENTS then
@@ -154,7 +158,8 @@ with_called shows line a call = do
 abbrev pub taken_at : List Waiting → ℕ → Option (Waiting × List Waiting)
 taken_at waiting place = slice_get waiting place >>= λ command. Some (command, remove waiting place)
 
--- the command of an agent among those that wait for their answers, and the others; none if no command of the agent waits
+-- the command of an agent among those that wait for their answers, and the others; none if no
+-- command of the agent waits
 unfoldable pub command_taken : List Waiting → ℕ → Option (Waiting × List Waiting)
 command_taken waiting a = position (is_by a) waiting >>= λ place. taken_at waiting place
 
@@ -167,7 +172,8 @@ has_token token (Malformed len header) = false
 abbrev pub is_with : ℕ → ℕ → Waiting → Bool
 is_with a token waiting = waiting.agent == a && has_token token waiting.frame
 
--- the command of an agent with a token among those that wait, and the others; none if no such command waits
+-- the command of an agent with a token among those that wait, and the others; none if no such
+-- command waits
 unfoldable pub taken_with : List Waiting → ℕ → ℕ → Option (Waiting × List Waiting)
 taken_with waiting a token = position (is_with a token) waiting >>= λ place. slice_get waiting place >>= λ command. Some (command, remove waiting place)
 
@@ -178,7 +184,8 @@ is_early (Some response) a token = response.agent == a && response.token == toke
 
 -- a command of a trace that waits for its response
 abbrev pub with_trace : Shows → ℕ → ℕ → Frame → Shows
-with_trace shows line a frame = record shows { traced = shows.traced ++ record { line = line; agent = a; frame = frame } ∷ [] }
+with_trace shows line a frame =
+    record shows { traced = shows.traced ++ record { line = line; agent = a; frame = frame } ∷ [] }
 
 -- what lines show once no answer comes to a command that waited: it and those that still wait are
 -- asked before this
@@ -201,7 +208,8 @@ token_free shows a token = elim (taken_with shows.traced a token) [
 abbrev pub none_early : Shows → Shows
 none_early shows = record shows { early = None }
 
--- a command of a trace: it waits for its response, but if the last response before it is the one to it, the two are not judged, since a trace may show the payload of the response in both
+-- a command of a trace: it waits for its response, but if the last response before it is the one to
+-- it, the two are not judged, since a trace may show the payload of the response in both
 abbrev pub with_traced : Shows → ℕ → ℕ → Message → Shows
 with_traced shows line a message =
     let free = token_free shows a message.header.token in
@@ -210,14 +218,16 @@ with_traced shows line a message =
 
 -- a command with its answer, which comes to this place, if the command has one
 abbrev pub answered_at : Option ℕ → Shows → ℕ → Waiting → Answer → Shows
-answered_at None shows line command answer = with_entry shows line (Answered command.agent command.frame answer)
+answered_at None shows line command answer =
+    with_entry shows line (Answered command.agent command.frame answer)
 answered_at (Some place) shows line command answer =
     let after = with_entry shows line (Replied place command.agent command.frame answer) in
     with_asking after (with_free (asking_of after) place)
 
 -- a command with its answer
 abbrev pub with_answered : Shows → ℕ → Waiting → Answer → Shows
-with_answered shows line command answer = answered_at (place_of_line (asking_of shows) command.line) shows line command answer
+with_answered shows line command answer =
+    answered_at (place_of_line (asking_of shows) command.line) shows line command answer
 
 -- the answer to the command of its agent that waits
 unfoldable pub with_answer : Shows → ℕ → ℕ → Answer → Option Shows
@@ -225,7 +235,8 @@ with_answer shows line a answer = do
   taken ← command_taken shows.waiting a
   Some (with_answered (record shows { waiting = taken.1 }) line taken.0 answer)
 
--- the response of a trace to the command of its agent that waits with its token; if none waits it is not judged
+-- the response of a trace to the command of its agent that waits with its token; if none waits it
+-- is not judged
 abbrev pub with_response : Shows → ℕ → ℕ → Message → Shows
 with_response shows line a message = elim (taken_with shows.traced a message.header.token) [
   | None ↦ with_unmatched (record shows { early = Some (record { agent = a; token = message.header.token }) }) line message.header.protocol
@@ -274,9 +285,11 @@ abbrev pub all_finished : Result Shows ℕ → Result RecordView ℕ
 all_finished (Err number) = Err number
 all_finished (Ok shows) = Ok (finished shows)
 
--- the record that these lines encode, if these protocols are judged, on a board with this number of agents; else the number of the first line that is not of it
+-- the record that these lines encode, if these protocols are judged, on a board with this number of
+-- agents; else the number of the first line that is not of it
 abbrev pub record_of : List ℕ → ℕ → List Line → Result RecordView ℕ
-record_of judged agents lines = all_finished (after_each_line (with_line agents) (nothing_shown judged) lines)
+record_of judged agents lines =
+    all_finished (after_each_line (with_line agents) (nothing_shown judged) lines)
 
 -- lines, and what is read in their places: each has its number
 abbrev pub AreMeant : (List ℕ → List ℕ → Type 0) → List Line → List Line → Type 0

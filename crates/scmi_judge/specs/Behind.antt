@@ -28,7 +28,8 @@ abbrev pub taken_by : ℕ → List Entry → List Message
 taken_by a [] = []
 taken_by a (entry ∷ entries) = taken_by a entries ++ option_to_list (message_shown a entry)
 
--- after a history agent a has been seen to take all that was posted to it, so that its channel is empty
+-- after a history agent a has been seen to take all that was posted to it, so that its channel is
+-- empty
 abbrev pub HasEmptyChannel : Board → List Entry → List Event → ℕ → Type 0
 HasEmptyChannel board entries h a = delivered_messages board a h ≡ taken_by a entries
 
@@ -46,8 +47,10 @@ may_refuse None board h = false
 may_refuse Answered board h = is_first_wanted board h
 may_refuse Any board h = true
 
--- after a history that is behind these entries an event may come that no entry shows by itself: a pending set completes;
--- or the hardware refuses its change, if it may; or a message is posted into its agent's channel, if that is empty, so that at most one is posted and not yet seen;
+-- after a history that is behind these entries an event may come that no entry shows by itself: a
+-- pending set completes;
+-- or the hardware refuses its change, if it may; or a message is posted into its agent's channel,
+-- if that is empty, so that at most one is posted and not yet seen;
 -- or an agent restarts, if agents may
 abbrev pub IsUnseenEvent : Unseen → Board → List Entry → List Event → Event → Type 0
 IsUnseenEvent may board entries h Advance = Unit {0}

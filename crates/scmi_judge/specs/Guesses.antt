@@ -42,7 +42,8 @@ IsIn g guesses = (k : ℕ) × (slice_get guesses k ≡ Some g)
 abbrev pub AreDifferent : List Guess → Type 0
 AreDifferent guesses = AllPairs (λ g other. g ≢ other) guesses
 
--- each of these guesses may be behind these entries, and no two are the same: of those that were tried, and of those that are left
+-- each of these guesses may be behind these entries, and no two are the same: of those that were
+-- tried, and of those that are left
 pub record AreFound (may : Unseen) (board : Board) (entries : List Entry) (tried left : List Guess) : Type 0 where
   pub tried_real : All (IsReal may board entries) tried
   pub left_real : All (IsReal may board entries) left
@@ -66,7 +67,8 @@ pub record AreMany (may : Unseen) (board : Board) (entries : List Entry) (count 
 abbrev pub FindsMany : Unseen → List Guess → List Guess → ℕ → Type 0
 FindsMany may tried left count = (board : Board) (entries : List Entry) → AreFound may board entries tried left → AreMany may board entries count
 
--- if a guess gives an entry, what it is after that was left, or was left before; or it does not, and the same are left
+-- if a guess gives an entry, what it is after that was left, or was left before; or it does not,
+-- and the same are left
 abbrev pub IsGiven : Unseen → Guess → Entry → List Guess → List Guess → Type 0
 IsGiven may g entry left new =
     (GivesNot may g entry × (new ≡ left))

@@ -10,7 +10,8 @@ use Rattle.scmi_judge.specs.Window.{IsOfWindow}
 use Rattle.scmi_judge.specs.declared.unseen.Unseen.{Unseen}
 use Rattle.scmi_judge.specs.declared.window.Window.{Window}
 
--- the board, what may happen that no entry shows, the platforms that may be behind the entries so far, the places for
+-- the board, what may happen that no entry shows, the platforms that may be behind the entries so
+-- far, the places for
 -- more, and whether it still judges
 pub record Judging : Type 0 where
   pub board : Board
@@ -19,7 +20,8 @@ pub record Judging : Type 0 where
   pub spare : List Guess
   pub sure : Bool
 
--- a judge that still judges has exactly the platforms that may be behind these entries, newest first, and each once
+-- a judge that still judges has exactly the platforms that may be behind these entries, newest
+-- first, and each once
 pub record Knows (j : Judging) (entries : List Entry) : Type 0 where
   pub sure : j.sure ≡ true
   pub exact : AreExact j.unseen j.board entries j.guesses
@@ -29,7 +31,8 @@ pub record Knows (j : Judging) (entries : List Entry) : Type 0 where
 abbrev pub AreTooMany : Judging → List Entry → Type 0
 AreTooMany j entries = AreMany j.unseen j.board entries (1 + length j.guesses + length j.spare)
 
--- guesses are of one board, with those that a window keeps; and all are left, if the judge still judges
+-- guesses are of one board, with those that a window keeps; and all are left, if the judge still
+-- judges
 pub record IsReady (sure : Bool) (g : Guesses) (w : Window) : Type 0 where
   pub boards : HaveBoard g
   pub window : IsOfWindow g.made.platform.board w

@@ -12,7 +12,8 @@ use Rattle.scmi_judge.specs.declared.outstanding.Outstanding.{Outstanding}
 
 -- whether two messages have the same header and the same words
 abbrev pub is_same_message : Message → Message → Bool
-is_same_message a b = is_same_header a.header b.header && pointwise nat_eq a.payload.items b.payload.items
+is_same_message a b =
+    is_same_header a.header b.header && pointwise nat_eq a.payload.items b.payload.items
 
 -- whether two answers are the same
 abbrev pub is_same_answer : Answer → Answer → Bool

@@ -54,15 +54,18 @@ sets_value _ = false
 
 -- the set of the value that a command read, from the words of the reply
 abbrev pub value_shown : Result codec.Command Status → List ℕ → Option codec.Command
-value_shown (Ok (Power (power.Get domain))) (status ∷ state ∷ []) = Some (Power (power.Set 0 domain state))
-value_shown (Ok (Clock (clock.GetRate c))) (status ∷ low ∷ high ∷ []) = Some (Clock (clock.SetRate 0 c (rate_of low high)))
+value_shown (Ok (Power (power.Get domain))) (status ∷ state ∷ []) =
+    Some (Power (power.Set 0 domain state))
+value_shown (Ok (Clock (clock.GetRate c))) (status ∷ low ∷ high ∷ []) =
+    Some (Clock (clock.SetRate 0 c (rate_of low high)))
 value_shown _ _ = None
 
 -- a command as a message with token 0
 abbrev pub message_of : codec.Command → Message
 message_of c = record { header = command_header c 0; payload = record { items = command_words c } }
 
--- the set of the value that a reply of success shows: the command itself if it is a set, or else one of the value that it read
+-- the set of the value that a reply of success shows: the command itself if it is a set, or else
+-- one of the value that it read
 abbrev pub set_shown : Message → Message → Option Message
 set_shown command reply =
     if sets_value (command_of command) then Some command else option_map message_of (value_shown (command_of command) reply.payload.items)

@@ -18,7 +18,7 @@ use std::mem;
 
 /// The most platforms that a judge goes on with after an entry that differs, and looks back to.
 /// Nothing is promised from there on, and each of them costs a step of every later entry.
-pub const GOING_ON: usize = 32;
+pub const GOING_ON: usize = 64;
 
 impl Guesses {
     /// Passes over an entry that none of the guesses gives.
