@@ -101,9 +101,12 @@ enum {
     SCMI_WRONG_SIZE = 10, /* the area, or the number of words, does not fit the agent's channel */
     SCMI_NO_RESOURCE = 11, /* the board has no domain or clock of this number */
     SCMI_ASKED = 12,      /* a command was asked about, and is neither committed nor failed */
-    SCMI_EFFECT = 13,     /* of scmi_ask: make this change, then scmi_commit or scmi_fail */
+    SCMI_EFFECT = 13,     /* of scmi_ask: make this change, then scmi_commit, scmi_fail or scmi_refuse */
     SCMI_TABLE = 14,      /* the board's tables are not well formed */
+    SCMI_WRONG_STATUS = 15, /* of scmi_refuse: the number is no SCMI_STATUS_.. */
     SCMI_RULE = 16,       /* + N, from 1 to 5: the first rule that the board breaks */
+    SCMI_NO_STATE = 32,   /* of scmi_domain_is: the state is neither 0 ON nor 0x40000000 OFF */
+    SCMI_NO_RATE = 33,    /* of scmi_commit_rate: the command is to give no clock a rate */
     SCMI_LINE = 256       /* + L: line L of the board's text, from 1, has another form, or follows `end` */
 };
 
@@ -117,6 +120,20 @@ enum {
     SCMI_EFFECT_STATE = 1,  /* a domain is given a state */
     SCMI_EFFECT_RATE = 2,   /* a clock is given a rate */
     SCMI_EFFECT_ENABLED = 3 /* a clock is enabled or disabled */
+};
+
+/*
+ * Why hardware refused a change, in the standard's numbers: the status that the agent gets. The library refuses what it
+ * can judge by the board before it asks, so these are for what only the driver knows.
+ */
+enum {
+    SCMI_STATUS_NOT_SUPPORTED = -1,      /* this machine can't make such a change */
+    SCMI_STATUS_INVALID_PARAMETERS = -2, /* the driver can't use the new value */
+    SCMI_STATUS_DENIED = -3,             /* another part of the machine, or its security, forbids it */
+    SCMI_STATUS_OUT_OF_RANGE = -5,       /* the new value is beyond what the hardware can do now */
+    SCMI_STATUS_BUSY = -6,               /* not now: the agent may try again */
+    SCMI_STATUS_GENERIC_ERROR = -8,      /* it failed, and none of the others says why */
+    SCMI_STATUS_HARDWARE_ERROR = -9      /* the hardware failed: what scmi_fail and its kin say */
 };
 
 /* A change of hardware. It may be to what the hardware has already. */
@@ -187,6 +204,7 @@ typedef struct scmi_board_domain {
     uint32_t asynchronous;
     uint32_t notify;
     uint32_t kept;
+    uint32_t absent; /* not 0: it has a number and is not there, NOT_FOUND to every agent */
 } scmi_board_domain;
 
 /*
@@ -203,6 +221,8 @@ typedef struct scmi_board_clock {
     uint32_t count;
     uint32_t enabled; /* at the start */
     uint32_t kept;    /* not 0: no agent, whatever it may do, may disable it (DENIED); its rate may be set */
+    uint32_t absent;  /* not 0: it has a number and is not there, NOT_FOUND to every agent */
+    uint32_t free;    /* not 0: a set asks for the rate of the command, and rounds none (scmi_commit_rate) */
 } scmi_board_clock;
 
 /* The domains and the clocks that a device holds: bit i is for domain or clock i. */
@@ -259,9 +279,9 @@ static inline uint32_t scmi_platform_new_of(scmi_platform *platform, const scmi_
  * agents, domains, clocks, rates and devices: a constant, for a block of its own.
  */
 #define SCMI_PLATFORM_BYTES(agents, domains, clocks, rates, devices) \
-    (SCMI_PLATFORM_ALONE + 64 * (size_t)(agents) + 80 * (size_t)(domains) + 160 * (size_t)(clocks) + \
-     16 * (size_t)(rates) + 16 * (size_t)(devices))
-#define SCMI_PLATFORM_ALONE ((size_t)8192)
+    (SCMI_PLATFORM_ALONE + 24 * (size_t)(agents) + 32 * (size_t)(domains) + 72 * (size_t)(clocks) + \
+     8 * (size_t)(rates) + 8 * (size_t)(devices))
+#define SCMI_PLATFORM_ALONE ((size_t)8064)
 
 static inline size_t scmi_platform_bytes(const scmi_board *board)
 {
@@ -280,13 +300,14 @@ uint32_t scmi_answer(scmi_platform *SCMI_ALONE platform, uint32_t agent, uint8_t
  * The same beside hardware, which is changed before the command is executed. A frame that changes none of it is
  * executed and answered in place, as by scmi_answer: SCMI_DONE. Else SCMI_EFFECT: `effect` is what it is to change,
  * the platform keeps the frame as it was read, and the area stays as it was. The program makes the change, and calls
- * scmi_commit, or scmi_fail if the hardware refused; until then every call that would change the platform gives
- * SCMI_ASKED and changes nothing, and the calls that read it go on. SCMI_NO_PLATFORM, SCMI_ASKED, SCMI_NO_FRAME (the
- * channel is free) or SCMI_NO_AGENT.
+ * scmi_commit, or scmi_fail or scmi_refuse if the hardware refused; until then every call that would change the
+ * platform gives SCMI_ASKED and changes nothing, and the calls that read it go on. SCMI_NO_PLATFORM, SCMI_ASKED,
+ * SCMI_NO_FRAME (the channel is free) or SCMI_NO_AGENT.
  *
- * If a program commits exactly what its hardware made, fails exactly what it refused, and calls scmi_advance and
- * scmi_fail_advance in the same way, then its hardware has made exactly the changes of the platform's history, in
- * order, each once, and refused exactly those that failed.
+ * If a program commits exactly what its hardware made, fails or refuses exactly what it refused, and calls
+ * scmi_advance, scmi_fail_advance and scmi_refuse_advance in the same way, then its hardware has made exactly the
+ * changes of the platform's history but those that it reported by itself (scmi_domain_is, scmi_clock_is and
+ * scmi_commit_rate), in order, each once, and refused exactly those that failed.
  */
 uint32_t scmi_ask(scmi_platform *SCMI_ALONE platform, uint32_t agent, uint8_t area[SCMI_ALONE SCMI_AREA_BYTES],
                   scmi_effect *SCMI_ALONE effect);
@@ -299,8 +320,23 @@ uint32_t scmi_ask(scmi_platform *SCMI_ALONE platform, uint32_t agent, uint8_t ar
  */
 uint32_t scmi_commit(scmi_platform *SCMI_ALONE platform, uint8_t area[SCMI_ALONE SCMI_AREA_BYTES]);
 
-/* The same if the hardware refused: the answer is HARDWARE_ERROR, and every value stays as it was. */
+/*
+ * The same if a clock was to be given a rate, and its hardware runs at another now: `low` and `high` are the words of
+ * that rate, in Hz. The answer is that of scmi_commit. From then on this is the clock's rate, whether the board has it
+ * or not: CLOCK_RATE_GET and scmi_clock_rate give it. It counts as two events, the command and a report of the rate.
+ * SCMI_NO_RATE (the change is none of SCMI_EFFECT_RATE) comes after all other numbers, and the command still waits.
+ */
+uint32_t scmi_commit_rate(scmi_platform *SCMI_ALONE platform, uint8_t area[SCMI_ALONE SCMI_AREA_BYTES], uint32_t low,
+                          uint32_t high);
+
+/* As scmi_commit if the hardware refused: the answer is HARDWARE_ERROR, and every value stays as it was. */
 uint32_t scmi_fail(scmi_platform *SCMI_ALONE platform, uint8_t area[SCMI_ALONE SCMI_AREA_BYTES]);
+
+/*
+ * The same, for a driver that says why: the answer is `status`, one of the seven SCMI_STATUS_.. above. Any other number
+ * gives SCMI_WRONG_STATUS, which comes after all other numbers: nothing has changed, and the command still waits.
+ */
+uint32_t scmi_refuse(scmi_platform *SCMI_ALONE platform, uint8_t area[SCMI_ALONE SCMI_AREA_BYTES], int32_t status);
 
 /*
  * The same in an area that has the size of the agent's channel, as scmi_channel gives it: `bytes` bytes. A frame
@@ -313,7 +349,10 @@ uint32_t scmi_answer_in(scmi_platform *SCMI_ALONE platform, uint32_t agent, uint
 uint32_t scmi_ask_in(scmi_platform *SCMI_ALONE platform, uint32_t agent, uint8_t *SCMI_ALONE area, size_t bytes,
                      scmi_effect *SCMI_ALONE effect);
 uint32_t scmi_commit_in(scmi_platform *SCMI_ALONE platform, uint8_t *SCMI_ALONE area, size_t bytes);
+uint32_t scmi_commit_rate_in(scmi_platform *SCMI_ALONE platform, uint8_t *SCMI_ALONE area, size_t bytes, uint32_t low,
+                             uint32_t high);
 uint32_t scmi_fail_in(scmi_platform *SCMI_ALONE platform, uint8_t *SCMI_ALONE area, size_t bytes);
+uint32_t scmi_refuse_in(scmi_platform *SCMI_ALONE platform, uint8_t *SCMI_ALONE area, size_t bytes, int32_t status);
 
 /*
  * The same without an area, for a transport that has none: a trusted application's calls, or those of a driver of the
@@ -339,8 +378,12 @@ uint32_t scmi_ask_words(scmi_platform *SCMI_ALONE platform, uint32_t agent, cons
                         scmi_effect *SCMI_ALONE effect);
 uint32_t scmi_commit_words(scmi_platform *SCMI_ALONE platform, uint32_t *SCMI_ALONE reply, size_t room,
                            uint32_t *SCMI_ALONE given);
+uint32_t scmi_commit_rate_words(scmi_platform *SCMI_ALONE platform, uint32_t *SCMI_ALONE reply, size_t room,
+                                uint32_t *SCMI_ALONE given, uint32_t low, uint32_t high);
 uint32_t scmi_fail_words(scmi_platform *SCMI_ALONE platform, uint32_t *SCMI_ALONE reply, size_t room,
                          uint32_t *SCMI_ALONE given);
+uint32_t scmi_refuse_words(scmi_platform *SCMI_ALONE platform, uint32_t *SCMI_ALONE reply, size_t room,
+                           uint32_t *SCMI_ALONE given, int32_t status);
 
 /* Gives what an agent's channels are. SCMI_DONE, SCMI_NO_PLATFORM or SCMI_NO_AGENT. */
 uint32_t scmi_channel(scmi_platform *SCMI_ALONE platform, uint32_t agent, scmi_channel_numbers *SCMI_ALONE channel);
@@ -351,7 +394,7 @@ uint32_t scmi_advance(scmi_platform *platform);
 /*
  * Gives what the completion of the first pending set is to change of the hardware; the platform stays as it was.
  * SCMI_DONE, SCMI_NO_PLATFORM or SCMI_NOTHING (none is pending). Nothing is kept of it: the first set stays the
- * first, whatever commands are answered, until scmi_advance or scmi_fail_advance takes it off.
+ * first, whatever commands are answered, until scmi_advance, scmi_fail_advance or scmi_refuse_advance takes it off.
  */
 uint32_t scmi_ask_advance(scmi_platform *SCMI_ALONE platform, scmi_effect *SCMI_ALONE effect);
 
@@ -361,6 +404,9 @@ uint32_t scmi_ask_advance(scmi_platform *SCMI_ALONE platform, scmi_effect *SCMI_
  * pending).
  */
 uint32_t scmi_fail_advance(scmi_platform *platform);
+
+/* The same by a status, as scmi_refuse takes it: the delayed response is this. SCMI_WRONG_STATUS comes last. */
+uint32_t scmi_refuse_advance(scmi_platform *platform, int32_t status);
 
 /*
  * Writes the first message of an agent's outbox (a delayed response or a notification) into an area, with
@@ -386,6 +432,23 @@ uint32_t scmi_sent(scmi_platform *platform, uint32_t agent);
  * new command. scmi_mailbox_restart does all of this. SCMI_DONE, SCMI_NO_PLATFORM, SCMI_ASKED or SCMI_NO_AGENT.
  */
 uint32_t scmi_restart(scmi_platform *platform, uint32_t agent);
+
+/*
+ * The hardware changed a domain by itself, no command did: a rail failed, or the machine was suspended or woke. `state`
+ * is 0 ON or 0x40000000 OFF. From then on agents read this state, and if it was another before, the domain's
+ * subscribers are notified, with 0, the platform, as the causer. Pending sets stay pending and complete as before,
+ * permissions stay, and a domain that the board keeps on may be off. The program is asked for nothing.
+ * SCMI_DONE, SCMI_NO_PLATFORM, SCMI_ASKED (commit or fail the command first), SCMI_NO_RESOURCE or SCMI_NO_STATE.
+ */
+uint32_t scmi_domain_is(scmi_platform *platform, uint32_t domain, uint32_t state);
+
+/*
+ * A clock runs at this rate now, in Hz, by its lower and upper word, and is enabled if `enabled` is not 0: what the
+ * driver finds after a wake, or where firmware or a loader set it. The rate may be one that the board does not have.
+ * From then on agents read both; nobody is notified, and pending sets stay pending. It counts as two events.
+ * SCMI_DONE, SCMI_NO_PLATFORM, SCMI_ASKED or SCMI_NO_RESOURCE.
+ */
+uint32_t scmi_clock_is(scmi_platform *platform, uint32_t clock, uint32_t low, uint32_t high, uint32_t enabled);
 
 /*
  * The state of the platform, which stays as it was. At the start they give what the hardware is to be brought to. A
@@ -435,10 +498,12 @@ SCMI_HOLDS(sizeof(scmi_channel_numbers) == 8, "the size of a channel's numbers")
 SCMI_HOLDS(sizeof(scmi_board_heading) == 40, "the size of a heading");
 SCMI_HOLDS(sizeof(scmi_board_agent) == 40, "the size of an agent's row");
 SCMI_HOLDS(offsetof(scmi_board_agent, denied_clocks) == 36, "the place of an agent's last mask");
-SCMI_HOLDS(sizeof(scmi_board_domain) == 36, "the size of a domain's row");
-SCMI_HOLDS(sizeof(scmi_board_clock) == 64, "the size of a clock's row");
+SCMI_HOLDS(sizeof(scmi_board_domain) == 40, "the size of a domain's row");
+SCMI_HOLDS(offsetof(scmi_board_domain, absent) == 36, "the place of what is absent");
+SCMI_HOLDS(sizeof(scmi_board_clock) == 72, "the size of a clock's row");
 SCMI_HOLDS(offsetof(scmi_board_clock, enabled) == 56, "the place of a clock's bit");
 SCMI_HOLDS(offsetof(scmi_board_clock, kept) == 60, "the place of what is kept");
+SCMI_HOLDS(offsetof(scmi_board_clock, free) == 68, "the place of what is free");
 SCMI_HOLDS(sizeof(scmi_board_device) == 8, "the size of a device's row");
 #undef SCMI_HOLDS
 #endif
@@ -447,7 +512,7 @@ SCMI_HOLDS(sizeof(scmi_board_device) == 8, "the size of a device's row");
 typedef struct scmi_library {
     uint32_t area_bytes, payload_words;
     uint32_t done, nothing, memory, no_agent, not_free, no_platform, in_use, no_history, no_frame;
-    uint32_t wrong_size, no_resource, asked, effect, table, rule, line;
+    uint32_t wrong_size, no_resource, asked, effect, table, wrong_status, rule, no_state, no_rate, line;
     uint32_t effect_state, effect_rate, effect_enabled;
 } scmi_library;
 
@@ -486,9 +551,11 @@ static inline int scmi_header_fits(void)
            of.not_free == SCMI_NOT_FREE && of.no_platform == SCMI_NO_PLATFORM && of.in_use == SCMI_IN_USE &&
            of.no_history == SCMI_NO_HISTORY && of.no_frame == SCMI_NO_FRAME &&
            of.wrong_size == SCMI_WRONG_SIZE && of.no_resource == SCMI_NO_RESOURCE && of.asked == SCMI_ASKED &&
-           of.effect == SCMI_EFFECT && of.table == SCMI_TABLE && of.rule == SCMI_RULE && of.line == SCMI_LINE &&
-           of.effect_state == SCMI_EFFECT_STATE && of.effect_rate == SCMI_EFFECT_RATE &&
-           of.effect_enabled == SCMI_EFFECT_ENABLED && scmi_version() == scmi_header_version();
+           of.effect == SCMI_EFFECT && of.table == SCMI_TABLE && of.wrong_status == SCMI_WRONG_STATUS &&
+           of.rule == SCMI_RULE && of.no_state == SCMI_NO_STATE && of.no_rate == SCMI_NO_RATE &&
+           of.line == SCMI_LINE && of.effect_state == SCMI_EFFECT_STATE &&
+           of.effect_rate == SCMI_EFFECT_RATE && of.effect_enabled == SCMI_EFFECT_ENABLED &&
+           scmi_version() == scmi_header_version();
 }
 
 #ifdef __cplusplus

@@ -27,7 +27,10 @@ int main(void)
     FITS("SCMI_ASKED", of.asked);
     FITS("SCMI_EFFECT", of.effect);
     FITS("SCMI_TABLE", of.table);
+    FITS("SCMI_WRONG_STATUS", of.wrong_status);
     FITS("SCMI_RULE", of.rule);
+    FITS("SCMI_NO_STATE", of.no_state);
+    FITS("SCMI_NO_RATE", of.no_rate);
     FITS("SCMI_LINE", of.line);
     FITS("SCMI_EFFECT_STATE", of.effect_state);
     FITS("SCMI_EFFECT_RATE", of.effect_rate);

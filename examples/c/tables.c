@@ -1,6 +1,6 @@
 /*
  * Tables that are refused, each with its number, and nothing changed; boards in blocks of the bytes that are said to be
- * enough; and what tables keep, deny and share, beside the same board without it.
+ * enough; and what tables keep, deny, share, leave out and free, beside the same board without it.
  */
 #include <stdio.h>
 #include <string.h>
@@ -146,15 +146,19 @@ static void channel(const char *says, uint32_t bytes, uint32_t one_way)
 
 enum { ON = 0, OFF = 0x40000000 };
 /* Headers of the base, the power and the clock protocol. */
-enum { SET_PROTOCOL = 0x400a, RESET = 0x400b, SET_STATE = 0x4404 };
-enum { ATTRIBUTES = 0x5001, SET_RATE = 0x5005, CONFIG = 0x5007 };
+enum { SET_PROTOCOL = 0x400a, RESET = 0x400b };
+enum { DOMAIN = 0x4403, SET_STATE = 0x4404, GET_STATE = 0x4405, NOTIFY = 0x4406 };
+enum { ATTRIBUTES = 0x5001, CLOCK = 0x5003, RATES = 0x5004, SET_RATE = 0x5005, GET_RATE = 0x5006, CONFIG = 0x5007 };
 
-/* Of device 0, which has domain 1 and clock 1, agent 2 is denied the clocks, agent 3 the power, and agent 4 all. */
-static const struct {
+/* Agent 0 is for the first pending set, which completes. */
+struct command {
     uint32_t agent, header;
     unsigned count;
     uint32_t words[4];
-} commands[] = {
+};
+
+/* Of device 0, which has domain 1 and clock 1, agent 2 is denied the clocks, agent 3 the power, and agent 4 all. */
+static const struct command of_agents[] = {
     { 1, SET_STATE, 3, { 0, 0, OFF } },      /* domain 0 is kept, and agent 1 the trusted one */
     { 1, SET_STATE, 3, { 0, 0, ON } },
     { 2, SET_STATE, 3, { 0, 1, OFF } },
@@ -172,13 +176,32 @@ static const struct {
     { 2, SET_STATE, 3, { 1, 1, ON } },       /* later */
     { 2, SET_STATE, 3, { 1, 0, ON } },       /* its second */
     { 1, SET_STATE, 3, { 1, 0, ON } },
-    { 0, 0, 0, { 0 } },                      /* the first pending set completes */
+    { 0, 0, 0, { 0 } },
     { 2, SET_STATE, 3, { 1, 1, OFF } },
     { 1, SET_PROTOCOL, 4, { 2, 0, 0x14, 1 } }, /* agent 2 is allowed the clocks of device 0 */
     { 2, CONFIG, 2, { 1, 1 } },
     { 1, RESET, 2, { 2, 1 } },               /* .. and is denied them again */
     { 2, CONFIG, 2, { 1, 0 } },
     { 1, SET_STATE, 3, { 1, 0, OFF } }       /* kept, and pending */
+};
+
+/* Domain 0 and clock 0 are not there, and clock 1 is free. */
+static const struct command of_numbers[] = {
+    { 1, DOMAIN, 1, { 0 } },
+    { 1, GET_STATE, 1, { 0 } },
+    { 1, SET_STATE, 3, { 0, 0, OFF } },
+    { 1, NOTIFY, 2, { 0, 1 } },
+    { 1, SET_STATE, 3, { 0, 1, OFF } },
+    { 1, CLOCK, 1, { 0 } },
+    { 1, RATES, 2, { 0, 0 } },
+    { 1, SET_RATE, 4, { 0, 0, 2, 0 } },
+    { 1, GET_RATE, 1, { 0 } },
+    { 1, CONFIG, 2, { 0, 1 } },
+    { 1, ATTRIBUTES, 0, { 0 } },             /* their numbers stay */
+    { 1, SET_RATE, 4, { 0, 1, 1000, 5 } },
+    { 1, GET_RATE, 1, { 1 } },
+    { 1, SET_RATE, 4, { 0x10, 1, 2, 0 } },   /* flags are looked at all the same */
+    { 1, RATES, 2, { 1, 0 } }
 };
 
 static void fill_said(void)
@@ -191,13 +214,13 @@ static void fill_said(void)
 }
 
 /* Gives the commands to a platform of the board. */
-static void answer(const char *says)
+static void answer(const char *says, const struct command *commands, size_t count)
 {
     scmi_platform platform = { 0 };
     size_t i;
 
     printf("%s: %u\n", says, (unsigned)scmi_platform_new_of_in(&platform, block, sizeof(block), &board));
-    for (i = 0; i < sizeof(commands) / sizeof(commands[0]); i++)
+    for (i = 0; i < count; i++)
         if (commands[i].agent == 0)
             printf("advance %u\n", (unsigned)scmi_advance(&platform));
         else
@@ -212,9 +235,14 @@ static void said(void)
     agents[1].pending = agents[1].denied_clocks = 1;
     agents[2].denied_power = 1;
     agents[3].denied = 1;
-    answer("kept, denied and shared");
+    answer("kept, denied and shared", of_agents, sizeof(of_agents) / sizeof(*of_agents));
     fill_said();
-    answer("without it");
+    answer("without it", of_agents, sizeof(of_agents) / sizeof(*of_agents));
+    fill_said();
+    domains[0].absent = clocks[0].absent = clocks[1].free = 1;
+    answer("left out and freed", of_numbers, sizeof(of_numbers) / sizeof(*of_numbers));
+    fill_said();
+    answer("without it", of_numbers, sizeof(of_numbers) / sizeof(*of_numbers));
 }
 
 /* A board in as many bytes as are said to be enough, and in a block of none. */

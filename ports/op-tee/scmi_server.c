@@ -72,14 +72,23 @@ static uint32_t answer(unsigned int agent, size_t words, uint32_t *count)
 {
     scmi_platform *platform = &service_of(agent)->platform;
     scmi_effect effect;
-    uint32_t given = scmi_ask_words(platform, scmi_service_number(agent), message, words, reply, SCMI_MESSAGE_WORDS,
-                                    count, &effect);
+    uint32_t given;
+    int32_t status;
 
+    if (words > 0)
+        scmi_service_look(agent, platform, message[0], words > 1 ? message[1] : 0);
+    given = scmi_ask_words(platform, scmi_service_number(agent), message, words, reply, SCMI_MESSAGE_WORDS, count,
+                           &effect);
     if (given != SCMI_EFFECT)
         return given;
-    if (scmi_service_drive(agent, &effect) == SCMI_SUCCESS)
+    status = scmi_service_drive(agent, &effect);
+    if (status == SCMI_SUCCESS)
         return scmi_commit_words(platform, reply, SCMI_MESSAGE_WORDS, count);
-    return scmi_fail_words(platform, reply, SCMI_MESSAGE_WORDS, count);
+    given = scmi_refuse_words(platform, reply, SCMI_MESSAGE_WORDS, count, status);
+    /* A number that is no status, or says nothing of hardware. */
+    if (given == SCMI_WRONG_STATUS)
+        given = scmi_fail_words(platform, reply, SCMI_MESSAGE_WORDS, count);
+    return given;
 }
 
 /* An agent without a platform is not, nor one to which the platform may send where there is no way back. */

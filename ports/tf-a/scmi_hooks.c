@@ -19,8 +19,8 @@ enum { MOST_DOMAINS = 32, MOST_CLOCKS = 32, MOST_RATES = 64 };
 enum { RATES_AT_A_TIME = 10 };
 /* Power states, as the standard has them. */
 enum { STATE_ON = 0, STATE_OFF = 0x40000000 };
-/* Of the command by which the firmware closes device 0. */
-enum { SET_DEVICE_PERMISSIONS = 0x04009, CLOSED_DEVICE = 0, DENY = 0 };
+/* The messages whose answer has a value of the hardware, by their protocol, type and number. */
+enum { POWER_STATE_GET = 0x04405, CLOCK_ATTRIBUTES = 0x05003, CLOCK_RATE_GET = 0x05006, WHICH_MESSAGE = 0x3ffff };
 /* A table has a row at least. */
 #define ROWS(count) ((count) > 0 ? (count) : 1)
 
@@ -34,7 +34,6 @@ static struct {
     scmi_board_domain domains[ROWS(SCMI_PORT_DOMAINS)];
     scmi_board_clock clocks[ROWS(SCMI_PORT_CLOCKS)];
     uint64_t rates[ROWS(SCMI_PORT_RATES)];
-    scmi_board_device closed;
 } tables;
 static scmi_board board;
 
@@ -50,16 +49,6 @@ static void give_name(char to[SCMI_NAME_ROOM], const char *what, const char *nam
         to[0] = '-';
     if (strncmp(to, name, SCMI_NAME_ROOM) != 0)
         WARN("SCMI: %s \"%s\" is named \"%s\"\n", what, name, to);
-}
-
-/* A domain or clock without a name is none of the agent's. It is there all the same, under a name that no other has. */
-static void give_number(char to[SCMI_NAME_ROOM], unsigned int agent, const char *what, uint32_t id)
-{
-    memset(to, 0, SCMI_NAME_ROOM);
-    memcpy(to, "unnamed-", 8);
-    to[8] = (char)('0' + id / 10);
-    to[9] = (char)('0' + id % 10);
-    WARN("SCMI: agent %u: %s %u has no name: it is named \"%s\", and no agent may change it\n", agent, what, id, to);
 }
 
 /* How many of them are served; the others are said. */
@@ -84,12 +73,10 @@ static void add_domain(unsigned int agent, uint32_t id)
     unsigned int state;
 
     domain->synchronous = 1;
-    if (name == NULL) {
-        give_number(domain->name, agent, "domain", id);
-        tables.closed.domains |= 1U << id;
+    domain->absent = name == NULL;
+    give_name(domain->name, "domain", name != NULL ? name : "-");
+    if (domain->absent)
         return;
-    }
-    give_name(domain->name, "domain", name);
     state = plat_scmi_pd_get_state(agent, id);
     domain->on = state == STATE_ON;
     if (state != STATE_ON && state != STATE_OFF)
@@ -152,59 +139,66 @@ static int32_t take_steps(unsigned int agent, uint32_t id, scmi_board_clock *clo
         WARN("SCMI: clock \"%s\" does not reach %lu Hz in its steps\n", clock->name, steps[1]);
     if (rate < clock->low || rate > clock->high)
         rate = rate < clock->low ? clock->low : clock->high;
-    rate -= (rate - clock->low) % clock->step;
-    if (rate != clock->rate)
-        WARN("SCMI: clock \"%s\" is not in its steps, and is taken to be at %lu Hz\n", clock->name,
-             (unsigned long)rate);
-    clock->rate = rate;
+    clock->rate = rate - (rate - clock->low) % clock->step;
     return SCMI_SUCCESS;
 }
 
-/* A clock without rates, or with half of its list, has the one that it is at. False if there is no room for that. */
+static bool has_rate(const scmi_board_clock *clock)
+{
+    uint32_t at;
+
+    for (at = 0; at < clock->count; at++)
+        if (tables.rates[clock->first + at] == clock->rate)
+            return true;
+    return false;
+}
+
+/*
+ * A clock without rates, or with half of its list, has the one that it is at. False if there is no room for that. A board
+ * starts at one of its rates: a clock that is at another is at the lowest, until the first look at it.
+ */
 static bool add_rates(unsigned int agent, uint32_t id, scmi_board_clock *clock)
 {
     int32_t status = put_list(agent, id, clock);
-    uint32_t listed = clock->count;
 
     if (status == SCMI_NOT_SUPPORTED && take_steps(agent, id, clock) == SCMI_SUCCESS)
         return true;
-    if (status != SCMI_SUCCESS || listed == 0) {
+    if (status != SCMI_SUCCESS || clock->count == 0) {
         clock->count = 0;
-        WARN("SCMI: clock \"%s\" has no rates (%d), and stays at %lu Hz\n", clock->name, status,
+        WARN("SCMI: clock \"%s\" has no rates (%d): %lu Hz is its list\n", clock->name, status,
              (unsigned long)clock->rate);
         return put_rate(clock, clock->rate);
     }
-    if (!put_rate(clock, clock->rate)) {
-        WARN("SCMI: clock \"%s\" is taken to be at the lowest of its rates\n", clock->name);
+    if (!has_rate(clock))
         clock->rate = tables.rates[clock->first];
-    } else if (clock->count != listed) {
-        WARN("SCMI: clock \"%s\" is at %lu Hz, which is put into its list\n", clock->name, (unsigned long)clock->rate);
-    }
     return true;
 }
 
-/* False if there is no room for its rates. */
+/*
+ * Without a name it is not there, and needs no rates. Of any other the hook rounds, or refuses, and says what came of it.
+ * False if there is no room for its rates.
+ */
 static bool add_clock(unsigned int agent, uint32_t id)
 {
     scmi_board_clock *clock = &tables.clocks[id];
     const char *name = plat_scmi_clock_get_name(agent, id);
-    bool has_room;
 
     clock->first = (uint32_t)board.rate_count;
-    if (name == NULL) {
-        give_number(clock->name, agent, "clock", id);
-        tables.closed.clocks |= 1U << id;
-        has_room = put_rate(clock, 0);
-    } else {
-        give_name(clock->name, "clock", name);
-        clock->enabled = plat_scmi_clock_get_state(agent, id) == 1;
-        clock->rate = plat_scmi_clock_get_rate(agent, id);
-        has_room = add_rates(agent, id, clock);
+    clock->absent = name == NULL;
+    give_name(clock->name, "clock", name != NULL ? name : "-");
+    if (clock->absent) {
+        clock->step = 1;
+        return true;
+    }
+    clock->free = 1;
+    clock->enabled = plat_scmi_clock_get_state(agent, id) == 1;
+    clock->rate = plat_scmi_clock_get_rate(agent, id);
+    if (!add_rates(agent, id, clock)) {
+        ERROR("SCMI: agent %u: SCMI_PORT_RATES, %u, is too small\n", agent, SCMI_PORT_RATES);
+        return false;
     }
     board.rate_count += clock->count;
-    if (!has_room)
-        ERROR("SCMI: agent %u: SCMI_PORT_RATES, %u, is too small\n", agent, SCMI_PORT_RATES);
-    return has_room;
+    return true;
 }
 
 /* Protocols that the library has not: agents are answered NOT_SUPPORTED. */
@@ -237,7 +231,7 @@ const scmi_board *scmi_service_board(unsigned int agent_id, const struct scmi_ms
     memset(&tables, 0, sizeof(tables));
     board = (scmi_board){ .heading = { .trusted = SCMI_SERVICE_FIRMWARE }, .agents = tables.agents,
                           .agent_count = SCMI_SERVICE_FIRMWARE, .domains = tables.domains, .clocks = tables.clocks,
-                          .rates = tables.rates, .devices = &tables.closed };
+                          .rates = tables.rates };
     give_name(board.heading.vendor, "vendor", plat_scmi_vendor_name());
     give_name(board.heading.sub_vendor, "sub-vendor", plat_scmi_sub_vendor_name());
     say_protocols(agent_id);
@@ -251,18 +245,18 @@ const scmi_board *scmi_service_board(unsigned int agent_id, const struct scmi_ms
     for (id = 0; id < board.clock_count; id++)
         if (!add_clock(agent_id, id))
             return NULL;
-    board.device_count = (tables.closed.domains | tables.closed.clocks) != 0 ? 1 : 0;
     return &board;
 }
 
-/* The firmware's own command: the agent may not change what has no name, which is in device 0. */
-bool scmi_service_start(unsigned int agent_id __unused, scmi_platform *platform)
+bool scmi_service_start(unsigned int agent_id __unused, scmi_platform *platform __unused)
 {
-    scmi_area area = { .length = 16, .header = SET_DEVICE_PERMISSIONS,
-                       .payload = { SCMI_SERVICE_AGENT, CLOSED_DEVICE, DENY } };
+    return true;
+}
 
-    return board.device_count == 0 ||
-           (scmi_answer(platform, SCMI_SERVICE_FIRMWARE, area.bytes) == SCMI_DONE && area.payload[0] == 0);
+/* Drivers divide by a rate, so none of 0 Hz goes to a hook. */
+static int32_t set_rate(unsigned int agent, uint32_t id, unsigned long rate)
+{
+    return rate == 0 ? SCMI_INVALID_PARAMETERS : plat_scmi_clock_set_rate(agent, id, rate);
 }
 
 int32_t scmi_service_drive(unsigned int agent_id, const scmi_effect *effect)
@@ -271,8 +265,50 @@ int32_t scmi_service_drive(unsigned int agent_id, const scmi_effect *effect)
     case SCMI_EFFECT_STATE:
         return plat_scmi_pd_set_state(agent_id, 0, effect->id, effect->low);
     case SCMI_EFFECT_RATE:
-        return plat_scmi_clock_set_rate(agent_id, effect->id, (unsigned long)effect->high << 32 | effect->low);
+        return set_rate(agent_id, effect->id, (unsigned long)effect->high << 32 | effect->low);
     default:
         return plat_scmi_clock_set_state(agent_id, effect->id, effect->low != 0);
+    }
+}
+
+static void look_at_clock(unsigned int agent, scmi_platform *platform, uint32_t id)
+{
+    uint32_t low, high, enabled, is_on;
+    uint64_t rate;
+
+    if (scmi_clock_rate(platform, id, &low, &high) != SCMI_DONE ||
+        scmi_clock_enabled(platform, id, &enabled) != SCMI_DONE || plat_scmi_clock_get_name(agent, id) == NULL)
+        return;
+    rate = plat_scmi_clock_get_rate(agent, id);
+    is_on = plat_scmi_clock_get_state(agent, id) == 1;
+    if (rate != ((uint64_t)high << 32 | low) || is_on != enabled)
+        scmi_clock_is(platform, id, (uint32_t)rate, (uint32_t)(rate >> 32), is_on);
+}
+
+/* A state that is neither ON nor OFF is not taken over. */
+static void look_at_domain(unsigned int agent, scmi_platform *platform, uint32_t id)
+{
+    uint32_t state, is;
+
+    if (scmi_domain_state(platform, id, &state) != SCMI_DONE || plat_scmi_pd_get_name(agent, id) == NULL)
+        return;
+    is = plat_scmi_pd_get_state(agent, id);
+    if (is != state)
+        scmi_domain_is(platform, id, is);
+}
+
+/* TF-A's server asks the hooks for each value that it answers, so what they say is reported before it is read. */
+void scmi_service_look(unsigned int agent_id, scmi_platform *platform, uint32_t header, uint32_t id)
+{
+    switch (header & WHICH_MESSAGE) {
+    case POWER_STATE_GET:
+        look_at_domain(agent_id, platform, id);
+        break;
+    case CLOCK_ATTRIBUTES:
+    case CLOCK_RATE_GET:
+        look_at_clock(agent_id, platform, id);
+        break;
+    default:
+        break;
     }
 }

@@ -23,6 +23,7 @@
 #include "scmi_trace.h"
 
 #pragma weak scmi_service_outbox
+#pragma weak scmi_service_look
 
 /* A core's stack in BL31 may have 1 KB; making a platform takes 9 KB, and so all is done on a stack of its own. */
 #ifndef SCMI_PORT_STACK
@@ -166,18 +167,24 @@ static uint32_t make(unsigned int agent)
     return given == SCMI_DONE;
 }
 
-/* Makes a change of the hardware that was asked for, and has the library commit to it, or fail. */
+/*
+ * Makes a change of the hardware that was asked for, and has the library commit to it, or refuse it with the status of
+ * the hardware. A number that is none, or says nothing of hardware, is HARDWARE_ERROR.
+ */
 static void drive(unsigned int agent, const scmi_effect *effect, bool is_pending)
 {
     scmi_platform *platform = &service_of(agent)->platform;
     int32_t status = scmi_service_drive(agent, effect);
+    uint32_t given;
 
-    if (status != SCMI_SUCCESS)
-        INFO("SCMI: agent %u: %d of the hardware is answered as HARDWARE_ERROR\n", agent, status);
     if (is_pending)
-        status == SCMI_SUCCESS ? scmi_advance(platform) : scmi_fail_advance(platform);
+        given = status == SCMI_SUCCESS ? scmi_advance(platform) : scmi_refuse_advance(platform, status);
     else
-        status == SCMI_SUCCESS ? scmi_commit(platform, copy.bytes) : scmi_fail(platform, copy.bytes);
+        given = status == SCMI_SUCCESS ? scmi_commit(platform, copy.bytes) : scmi_refuse(platform, copy.bytes, status);
+    if (given == SCMI_WRONG_STATUS) {
+        INFO("SCMI: agent %u: %d of the hardware is answered as HARDWARE_ERROR\n", agent, status);
+        is_pending ? scmi_fail_advance(platform) : scmi_fail(platform, copy.bytes);
+    }
     if (SCMI_PORT_TRACE)
         scmi_trace_change(agent, platform, effect, status == SCMI_SUCCESS);
 }
@@ -187,6 +194,7 @@ static void execute(unsigned int agent)
 {
     scmi_effect effect;
 
+    scmi_service_look(agent, &service_of(agent)->platform, copy.header, copy.length > 4 ? copy.payload[0] : 0);
     if (scmi_ask(&service_of(agent)->platform, scmi_service_number(agent), copy.bytes, &effect) == SCMI_EFFECT)
         drive(agent, &effect, false);
     if ((copy.status & SCMI_MAILBOX_FREE) == 0)
@@ -328,6 +336,12 @@ uint32_t scmi_service_poll(void)
 void scmi_service_restart(unsigned int agent_id)
 {
     enter(restart, agent_id);
+}
+
+/* Of hardware that changes nothing by itself. */
+void scmi_service_look(unsigned int agent_id __unused, scmi_platform *platform __unused, uint32_t header __unused,
+                       uint32_t id __unused)
+{
 }
 
 /* Of a platform without channels back. */

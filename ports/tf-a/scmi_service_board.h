@@ -64,8 +64,18 @@ const scmi_board *scmi_service_board(unsigned int agent_id, const struct scmi_ms
  */
 bool scmi_service_start(unsigned int agent_id, scmi_platform *platform);
 
-/* Makes a change of an agent's hardware: SCMI_SUCCESS, or another status of drivers/scmi.h, and nothing has changed. */
+/*
+ * Makes a change of an agent's hardware: SCMI_SUCCESS, or a status of drivers/scmi.h that says why not, which the agent
+ * gets, and nothing has changed. NOT_FOUND, COMMS_ERROR, PROTOCOL_ERROR and all else are HARDWARE_ERROR to the agent.
+ */
 int32_t scmi_service_drive(unsigned int agent_id, const scmi_effect *effect);
+
+/*
+ * Before a message of an agent is executed, by its header and the first word of its payload, 0 if it has none: what the
+ * hardware has changed by itself of what the message is about is reported here, by scmi_clock_is and scmi_domain_is.
+ * Without this call the hardware changes nothing by itself.
+ */
+void scmi_service_look(unsigned int agent_id, scmi_platform *platform, uint32_t header, uint32_t id);
 
 /* The channel for the platform's messages to an agent, always the same. Null if there is none, as without this call. */
 const struct scmi_msg_channel *scmi_service_outbox(unsigned int agent_id);

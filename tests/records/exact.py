@@ -4,7 +4,8 @@
     tests/records/exact.py BOARD RECORD [--refusals]
 
 A record is right if a legal history is behind it: each command is executed anywhere between its line and that of its
-answer, or, if it has none, anywhere after its line or never; if it is to change the hardware at once, this may refuse.
+answer, or, if it has none, anywhere after its line or never; if it is to change the hardware at once, this may refuse
+with HARDWARE_ERROR, and with --refusals by any of seven statuses if nothing is shown between its line and its answer.
 What no line shows may stand anywhere: a pending set completes, the first of them first; a message is posted into its
 agent's empty channel; and with --refusals the hardware may have refused a pending set that wants a response.
 Prints a report as `scmi check` does, as far as it goes: `N same` for each answer and message, `N differs` where the
@@ -15,12 +16,13 @@ import sys
 from typing import NamedTuple
 
 sys.dont_write_bytecode = True
-from model import (HARDWARE_ERROR, MOST_WAITING, State, agents_of, completed, executed, first_state,  # noqa: E402
+from model import (FAULTS, HARDWARE_ERROR, MOST_WAITING, State, agents_of, completed, executed, first_state,  # noqa: E402
                    load_of, posted, refused, refused_answer, taken, with_item)
 from texts import Answered, read_board, read_record  # noqa: E402
 
 MOST_STATES = 2000
-# The option of a check by which the hardware may have refused a pending set that wants a response.
+# The option of a check by which the hardware may have refused a pending set that wants a response, or said another status
+# than HARDWARE_ERROR.
 REFUSALS = "--refusals"
 
 
@@ -60,13 +62,18 @@ def post_late(state, agent):
     return posted(state, agent) if load_of(state, agent) == MOST_WAITING else None
 
 
-def executions(board, guess, agent):
-    """The guesses after the command of an agent was executed, or refused by the hardware."""
+def is_at_once(entry):
+    """Whether nothing is shown between a command and its answer."""
+    return (entry.agent, entry.frame) in entry.posted
+
+
+def executions(board, guess, agent, faults=(HARDWARE_ERROR,)):
+    """The guesses after the command of an agent was executed, or refused by the hardware with one of these statuses."""
     frame = guess.commands[agent - 1].frame
     done = executed(board, guess.state, agent, frame)
     yield with_command(guess, agent, Command(frame, done.answer), done.state)
-    if done.changes:
-        yield with_command(guess, agent, Command(frame, refused_answer(frame)), guess.state)
+    for fault in faults if done.changes else ():
+        yield with_command(guess, agent, Command(frame, refused_answer(frame, fault)), guess.state)
 
 
 def with_command(guess, agent, command, state):
@@ -112,12 +119,14 @@ class Judge:
                     left.append(guess)
         return reached
 
-    def answered(self, guess, agent):
-        """The guesses in which the command of an agent is executed: before, or else at the line of its answer."""
-        return [guess] if guess.commands[agent - 1].answer else executions(self.board, guess, agent)
+    def answered(self, guess, entry):
+        """The guesses in which a command is executed: before, or else at the line of its answer."""
+        if guess.commands[entry.agent - 1].answer:
+            return [guess]
+        return executions(self.board, guess, entry.agent, *[FAULTS] * (self.refuses and is_at_once(entry)))
 
     def after_answer(self, guess, entry):
-        for done in self.answered(guess, entry.agent):
+        for done in self.answered(guess, entry):
             if done.commands[entry.agent - 1].answer == entry.answer:
                 yield with_command(done, entry.agent, None, done.state)
 
@@ -138,7 +147,7 @@ class Judge:
         if not isinstance(entry, Answered):
             yield from (guess, guess._replace(state=taken(guess.state, entry.agent)))
             return
-        for done in (guess, *self.answered(guess, entry.agent)):
+        for done in (guess, *self.answered(guess, entry)):
             yield with_command(done, entry.agent, None, done.state)
 
     def asked(self, entry):

@@ -6,8 +6,9 @@ each may come.
 import random
 from typing import NamedTuple
 
-from model import (BASE, CLOCK, OFF, ON, POWER, PROTOCOLS, THE_CALLER, Board, Channel, Clock, Device, Domain,
-                   agents_of, completed, executed, first_state, header_of, posted, refused, refused_answer, taken)
+from model import (BASE, CLOCK, FAULTS, HARDWARE_ERROR, OFF, ON, POWER, PROTOCOLS, THE_CALLER, Board, Channel, Clock,
+                   Device, Domain, agents_of, completed, executed, first_state, header_of, posted, refused,
+                   refused_answer, taken)
 from texts import DEFAULT_WORDS, Tokens, answer_line, frame_of, message_line
 
 LETTERS = [chr(byte) for byte in range(0x21, 0x7F)]
@@ -269,8 +270,8 @@ def posted_by(rng, agent, command):
 
 
 class Made(NamedTuple):
-    """A record that was made: what it shows, whether the hardware refused a pending set behind it, and the line of an
-    answer that is a lie, if one is."""
+    """A record that was made: what it shows, whether it needs --refusals, since the hardware refused a pending set or said
+    another status than HARDWARE_ERROR, and the line of an answer that is a lie, if one is."""
     mix: str
     board: Board
     items: list
@@ -335,18 +336,28 @@ class History:
         if agent in self.silent:
             return
         if agent in self.waiting:
-            self.execute(agent)
+            self.execute(agent, at_once=True)
         self.items.append(self.answers.pop(agent))
 
-    def execute(self, agent):
-        frame = self.waiting.pop(agent)
+    def shows_behind(self, agent):
+        """Whether something is shown behind the line of the command of an agent that waits."""
+        for item in reversed(self.items):
+            if not isinstance(item, Asked) or item.agent == agent:
+                return not isinstance(item, Asked)
+
+    def execute(self, agent, at_once=False):
+        """The command of an agent is executed; at once, if its answer is shown next."""
+        frame, fault = self.waiting.pop(agent), HARDWARE_ERROR
+        if at_once and not self.shows_behind(agent):
+            fault = self.rng.choice(FAULTS)
         done = executed(self.board, self.state, agent, frame)
         answer, state = done.answer, done.state
         if done.changes and self.fails():
-            answer, state = refused_answer(frame), self.state
+            answer, state = refused_answer(frame, fault), self.state
+            self.refuses |= fault != HARDWARE_ERROR
         lies = state != self.state and agent not in self.silent and self.lies_now()
         if lies:
-            answer, state = self.lied(frame, done)
+            answer, state = self.lied(frame, done, fault)
         self.answers[agent] = Got(agent, frame, answer, self.past_of(frame))
         if lies:
             self.lie = self.answers[agent]
@@ -357,10 +368,10 @@ class History:
         self.until_lie -= 1
         return self.until_lie == 0
 
-    def lied(self, frame, done):
+    def lied(self, frame, done, fault):
         """What a platform answers and does that lies: it has not executed it, or the hardware has not refused it."""
         if done.changes and self.rng.randrange(3) == 0:
-            return refused_answer(frame), done.state
+            return refused_answer(frame, fault), done.state
         return done.answer, self.state
 
     def execute_one(self):

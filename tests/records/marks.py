@@ -3,7 +3,7 @@ alone explains it."""
 from itertools import islice
 from typing import NamedTuple
 
-from exact import TooMany
+from exact import TooMany, is_at_once
 from explain import MOST, Looker, in_place
 from report import told
 from texts import Answered
@@ -45,8 +45,7 @@ def must_find(looker, one):
 
 def asked_before(entry):
     """How many commands are posted before an entry and answered later: each is an entry of its own to a check."""
-    is_prompt = isinstance(entry, Answered) and (entry.agent, entry.frame) in entry.posted
-    return len(entry.posted) - is_prompt
+    return len(entry.posted) - (isinstance(entry, Answered) and is_at_once(entry))
 
 
 def marked(looker, entry, named):

@@ -12,7 +12,9 @@ BASE, POWER, CLOCK = 0x10, 0x11, 0x14
 PROTOCOLS = (BASE, POWER, CLOCK)
 ON, OFF = 0x00000000, 0x40000000
 SUCCESS, NOT_SUPPORTED, INVALID_PARAMETERS, DENIED, NOT_FOUND, OUT_OF_RANGE, BUSY = (-n & 0xFFFFFFFF for n in range(7))
-HARDWARE_ERROR, PROTOCOL_ERROR = (-n & 0xFFFFFFFF for n in (9, 10))
+GENERIC_ERROR, HARDWARE_ERROR, PROTOCOL_ERROR = (-n & 0xFFFFFFFF for n in (8, 9, 10))
+# The statuses by which hardware refuses a change.
+FAULTS = (NOT_SUPPORTED, INVALID_PARAMETERS, DENIED, OUT_OF_RANGE, BUSY, GENERIC_ERROR, HARDWARE_ERROR)
 THE_CALLER = 0xFFFFFFFF
 MOST_PENDING, MOST_WAITING = 8, 16
 TOKENS = 1024
@@ -442,6 +444,6 @@ def executed(board, state, agent, frame):
     return Done(("reply", header, given), after, changes)
 
 
-def refused_answer(frame):
-    """The answer to a command whose change the hardware refuses."""
-    return "reply", frame[1], (HARDWARE_ERROR,)
+def refused_answer(frame, fault=HARDWARE_ERROR):
+    """The answer to a command whose change the hardware refuses with a status."""
+    return "reply", frame[1], (fault,)

@@ -9,16 +9,18 @@
     for header, words in platform.messages(1):       # delayed responses and notifications
         ..
 
-The calls of scmi.h have their names here: answer, ask, commit, fail, advance, ask_advance, fail_advance, next, sent,
-restart, channel, domain_state, clock_rate, clock_enabled, pending, outbox_length, history_length, version.
+The calls of scmi.h have their names here: answer, ask, commit, commit_rate, fail, refuse, advance, ask_advance,
+fail_advance, refuse_advance, next, sent, restart, domain_is, clock_is, channel, domain_state, clock_rate,
+clock_enabled, pending, outbox_length, history_length, version.
 
 An area is a bytearray of the size of its agent's channel, AREA_BYTES bytes unless the board sets another size. It is
-changed in place: answer, ask, commit, fail and next are the calls of C that take its size (scmi_answer_in and so on).
+changed in place: answer, ask, commit, commit_rate, fail, refuse and next are the calls of C that take its size
+(scmi_answer_in and so on).
 
 A call returns True for SCMI_DONE and False for SCMI_NOTHING or SCMI_NO_FRAME. Calls for a value return it, or None.
-Any other number raises Refused, and then nothing has changed. ask returns the Effect to be made, and then commit or
-fail replies; it returns None if the command was answered, or there was none. Only one thread at a time may call a
-platform.
+Any other number raises Refused, and then nothing has changed. ask returns the Effect to be made, and then commit,
+commit_rate, fail or refuse replies; it returns None if the command was answered, or there was none. Only one thread at
+a time may call a platform. refuse and refuse_advance take the name of a status, such as "DENIED".
 
 The library is the file that SCMI_LIBRARY names, else libscmi.so beside this file or where tools/install puts it.
 """
@@ -31,8 +33,8 @@ from pathlib import Path
 __version__ = "1.0.0"
 
 DONE, NOTHING, MEMORY, NO_AGENT, NOT_FREE, NO_PLATFORM, IN_USE, NO_HISTORY, NO_FRAME = range(9)
-WRONG_SIZE, NO_RESOURCE, ASKED, EFFECT, TABLE = 10, 11, 12, 13, 14
-RULE, LINE = 16, 256
+WRONG_SIZE, NO_RESOURCE, ASKED, EFFECT, TABLE, WRONG_STATUS = 10, 11, 12, 13, 14, 15
+RULE, NO_STATE, NO_RATE, LINE = 16, 32, 33, 256
 STATE, RATE, ENABLED = 1, 2, 3
 AREA_BYTES, PAYLOAD_WORDS = 284, 64
 AREA_STATUS, AREA_FLAGS, AREA_LENGTH, AREA_HEADER, AREA_PAYLOAD = 0x04, 0x10, 0x14, 0x18, 0x1C
@@ -56,12 +58,16 @@ class Refused(Exception):
              "the area holds a message", "there is no platform", "there is a platform already",
              "the platform keeps no history", "the area holds no frame", "number 9",
              "the area has not the size of the channel", "the board has no such domain or clock",
-             "a command was asked about, and is neither committed nor failed")
+             "a command was asked about, and is neither committed nor failed", "number 13", "number 14",
+             "the status does not say why hardware refused")
+    LATER_NAMES = {NO_STATE: "the state is neither on nor off", NO_RATE: "the command is to give no clock a rate"}
 
     def __init__(self, number):
         self.number = number
         if number >= LINE:
             says = f"line {number - LINE} of the board has another form"
+        elif number in self.LATER_NAMES:
+            says = self.LATER_NAMES[number]
         elif number > RULE:
             says = f"the board breaks rule {number - RULE}"
         else:
@@ -90,7 +96,8 @@ class _Numbers(ctypes.Structure):
         area_bytes=AREA_BYTES, payload_words=PAYLOAD_WORDS, done=DONE, nothing=NOTHING, memory=MEMORY,
         no_agent=NO_AGENT, not_free=NOT_FREE, no_platform=NO_PLATFORM, in_use=IN_USE, no_history=NO_HISTORY,
         no_frame=NO_FRAME, wrong_size=WRONG_SIZE, no_resource=NO_RESOURCE, asked=ASKED, effect=EFFECT, table=TABLE,
-        rule=RULE, line=LINE, effect_state=STATE, effect_rate=RATE, effect_enabled=ENABLED)
+        wrong_status=WRONG_STATUS, rule=RULE, no_state=NO_STATE, no_rate=NO_RATE, line=LINE, effect_state=STATE,
+        effect_rate=RATE, effect_enabled=ENABLED)
     _fields_ = [(name, ctypes.c_uint32) for name in WANTED]
 
 
@@ -112,9 +119,12 @@ def load(file=None):
             ("scmi_platform_new", ctypes.c_char_p, ctypes.c_size_t),
             ("scmi_platform_new_recorded", ctypes.c_char_p, ctypes.c_size_t),
             ("scmi_answer_in", number, *area), ("scmi_ask_in", number, *area, effect), ("scmi_commit_in", *area),
-            ("scmi_fail_in", *area),
+            ("scmi_commit_rate_in", *area, number, number), ("scmi_fail_in", *area),
+            ("scmi_refuse_in", *area, ctypes.c_int32),
             ("scmi_advance",), ("scmi_ask_advance", effect), ("scmi_fail_advance",),
+            ("scmi_refuse_advance", ctypes.c_int32),
             ("scmi_next_in", number, *area), ("scmi_sent", number), ("scmi_restart", number),
+            ("scmi_domain_is", number, number), ("scmi_clock_is", number, number, number, number),
             ("scmi_channel", number, ctypes.POINTER(_Channel)), ("scmi_domain_state", number, word),
             ("scmi_clock_rate", number, word, word), ("scmi_clock_enabled", number, word),
             ("scmi_pending", number, word, effect), ("scmi_outbox_length", number, count),
@@ -179,8 +189,8 @@ class Platform:
         held = (ctypes.c_uint8 * len(area)).from_buffer(area)
         return call(self._handle, *agent, held, len(area), *more)
 
-    def _over(self, call, area, *agent):
-        return self._give(self._number(call, area, *agent))
+    def _over(self, call, area, *agent, more=()):
+        return self._give(self._number(call, area, *agent, more=more))
 
     def _read(self, call, *of, into=ctypes.c_uint32):
         value = into()
@@ -190,6 +200,14 @@ class Platform:
     @staticmethod
     def _effect(done, effect):
         return Effect(effect.kind, effect.id, effect.low | effect.high << 32) if done else None
+
+    @staticmethod
+    def _rate(rate):
+        return rate & 0xFFFFFFFF, rate >> 32
+
+    @staticmethod
+    def _end(made, commit, fail, refuse, *area):
+        return refuse(*area, made) if isinstance(made, str) else (commit if made else fail)(*area)
 
     def answer(self, agent, area):
         return self._over(self._library.scmi_answer_in, area, agent)
@@ -204,8 +222,15 @@ class Platform:
     def commit(self, area):
         return self._over(self._library.scmi_commit_in, area)
 
+    def commit_rate(self, area, rate):
+        """As commit, of a clock that runs at this rate, in Hz, and not at the one that it was to be given."""
+        return self._over(self._library.scmi_commit_rate_in, area, more=self._rate(rate))
+
     def fail(self, area):
         return self._over(self._library.scmi_fail_in, area)
+
+    def refuse(self, area, status):
+        return self._over(self._library.scmi_refuse_in, area, more=(-STATUSES.index(status),))
 
     def advance(self):
         return self._give(self._library.scmi_advance(self._handle))
@@ -217,6 +242,9 @@ class Platform:
     def fail_advance(self):
         return self._give(self._library.scmi_fail_advance(self._handle))
 
+    def refuse_advance(self, status):
+        return self._give(self._library.scmi_refuse_advance(self._handle, -STATUSES.index(status)))
+
     def next(self, agent, area):
         return self._over(self._library.scmi_next_in, area, agent)
 
@@ -225,6 +253,14 @@ class Platform:
 
     def restart(self, agent):
         return self._give(self._library.scmi_restart(self._handle, agent))
+
+    def domain_is(self, domain, state):
+        """The hardware changed a domain by itself."""
+        return self._give(self._library.scmi_domain_is(self._handle, domain, state))
+
+    def clock_is(self, clock, rate, enabled=True):
+        """The hardware changed a clock by itself: its rate, in Hz, and whether it is enabled."""
+        return self._give(self._library.scmi_clock_is(self._handle, clock, *self._rate(rate), int(enabled)))
 
     def channel(self, agent):
         """The size of an agent's areas in bytes, and whether the platform can't send to it."""
@@ -264,14 +300,15 @@ class Platform:
     def call(self, agent, protocol, message, *words, drive=None):
         """Executes a command of an agent, at its next token: its status by name, and the words after it.
 
-        With `drive` the platform is beside hardware: drive(effect) makes the change, and returns whether it did.
+        With `drive` the platform is beside hardware: drive(effect) makes the change, and returns whether it did, or the
+        name of the status that says why not.
         """
         token = self._tokens.get(agent, 0)
         area = command(header_of(protocol, message, token), *words, size=self.channel(agent).bytes)
         if not drive:
             self.answer(agent, area)
         elif effect := self.ask(agent, area):
-            (self.commit if drive(effect) else self.fail)(area)
+            self._end(drive(effect), self.commit, self.fail, self.refuse, area)
         self._tokens[agent] = (token + 1) % 1024
         if word(area, AREA_STATUS) != FREE:
             raise ChannelError("the frame was malformed")
@@ -281,9 +318,7 @@ class Platform:
     def complete(self, drive):
         """Completes the first pending set beside hardware; False if none is pending."""
         effect = self.ask_advance()
-        if effect and not drive(effect):
-            return self.fail_advance()
-        return self.advance()
+        return self._end(drive(effect) if effect else True, self.advance, self.fail_advance, self.refuse_advance)
 
     def messages(self, agent):
         """Takes each message of an agent's outbox, in order."""

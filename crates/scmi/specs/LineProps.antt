@@ -15,5 +15,7 @@ pub IsLineOf-prop : (board : Board) (line : BoardLine) → IsProp (IsLineOf boar
 IsLineOf-prop board (said.Channel line) = Prim.hlevel logic.props
 IsLineOf-prop board (said.Keep kept) = IsOnBoard-prop board kept
 IsLineOf-prop board (said.Deny line) = Prim.hlevel logic.props
+IsLineOf-prop board (said.Absent absent) = IsOnBoard-prop board absent
+IsLineOf-prop board (said.Free c) = Prim.hlevel logic.props
 
 pub ruleset line_props = (logic.props, IsLineOf-prop)

@@ -94,8 +94,9 @@ can't be checked too: a command is unanswered, a reply unmatched, or events are 
 counts them.
 --protocols 0x10,0x13 checks the messages of these protocols, and skips others; without it those of
 0x10, 0x11 and 0x14 are checked.
---refusals is for hardware that may refuse what was accepted: a delayed response of HARDWARE_ERROR
-is then right too.
+--refusals is for hardware that may refuse what was accepted, or with another status than
+HARDWARE_ERROR: a delayed response of HARDWARE_ERROR is then right too, and so is a status such as
+DENIED or BUSY in the answer to a command that was to change the hardware.
 --restarts is for agents that may restart anywhere: what one asked for is then gone, its requests
 for notifications, its outbox, its delayed responses.
 A record may be as long as it likes: it is read a line at a time, and the report is written as it
@@ -115,8 +116,8 @@ the record, 2 if there is nothing to check.",
         about: "\
 Prints a board as constant tables in C, of which the library for firmware makes a platform.",
         details: "\
-BOARD, or standard input, has the lines of a board, from board to end, with lines channel, keep
-and deny before end. A program compiles the tables with scmi.h, and passes them to
+BOARD, or standard input, has the lines of a board, from board to end, with lines channel, keep,
+deny, absent and free before end. A program compiles the tables with scmi.h, and passes them to
 scmi_platform_new_of_tables. docs/C.md has more.",
         example: "scmi table examples/phone.board > phone_board.c",
     },

@@ -11,13 +11,13 @@ use Rattle.scmi_plan.specs.Board.{Board, IsChannel, IsOnBoard}
 use Rattle.scmi_plan.specs.declared.limits.TheConstants.{DEVICES, PENDING_SETS}
 use Rattle.scmi_plan.specs.declared.resource.Resource.TheVariants as resource
 use Rattle.scmi_board.specs.BoardText.{behind_heading, heading_left, lines_by}
-use Rattle.scmi_board.specs.BoardLines.{Described, IsLineOf, described_left, first_channel, first_denied, first_options, first_pending, first_resource, first_scope, first_share, last_agent, with_board_line, with_board_row, with_channel_line, with_deny_line, with_keep_line, with_line, with_lines}
+use Rattle.scmi_board.specs.BoardLines.{Described, IsLineOf, described_left, first_channel, first_denied, first_free, first_options, first_pending, first_resource, first_scope, first_share, last_agent, with_absent_line, with_board_line, with_board_row, with_channel_line, with_deny_line, with_free_line, with_keep_line, with_line, with_lines}
 use Rattle.scmi_board.specs.Items.{◌>>=◌, ItemsView, first_item, first_number, items_left, no_item}
 use Rattle.scmi_board.specs.Lines.{Line, LinesView, last_number}
 use Rattle.scmi_board.specs.Rows.{with_row}
 use Rattle.scmi_board.specs.declared.board_line.BoardLine.{BoardLine}
 use Rattle.scmi_board.specs.declared.board_line.BoardLine.TheVariants as said
-use Rattle.scmi_board.specs.declared.words.TheConstants.{CHANNEL, CLOCK, DENY, DOMAIN, KEEP, ONE_WAY, PENDING}
+use Rattle.scmi_board.specs.declared.words.TheConstants.{ABSENT, CHANNEL, CLOCK, DENY, DOMAIN, FREE, KEEP, ONE_WAY, PENDING}
 
 -- each line is one of the board
 abbrev IsGood : Described → Type 0
@@ -97,6 +97,13 @@ resource-is board view =
     (if-so (bytes_eq word.0 CLOCK.now && nat_lt number.0 (length board.clocks)) _ _
     (λ is. ltb-true number.0 (length board.clocks) (and_parts (bytes_eq word.0 CLOCK.now) (nat_lt number.0 (length board.clocks)) is).1))))
 
+free-is : (board : Board) (view : ItemsView) → IfSome (first_free board view) (λ found. IsLineOf board (said.Free found.0))
+unfolding first_free
+free-is board view =
+    each (first_item view) _ _ (λ word. each (first_number 32 word.1) _ _ (λ number.
+    if-so (bytes_eq word.0 CLOCK.now && nat_lt number.0 (length board.clocks)) _ _
+    (λ is. ltb-true number.0 (length board.clocks) (and_parts (bytes_eq word.0 CLOCK.now) (nat_lt number.0 (length board.clocks)) is).1)))
+
 denied-is : (board : Board) (view : ItemsView) → IfSome (first_denied board view) (λ found. IsLineOf board (said.Deny found.0))
 unfolding first_denied
 denied-is board view =
@@ -134,6 +141,18 @@ deny-good so_far view good =
     bound (first_denied so_far.0 view) _ _ _ (denied-is so_far.0 view) (λ found is. each (no_item found.1) _ _ (λ end.
     All-push (IsLineOf so_far.0) so_far.1 (said.Deny found.0) good is))
 
+absent-good : (so_far : Described) (view : ItemsView) → IsGood so_far → IfSome (with_absent_line so_far view) IsGood
+unfolding with_absent_line
+absent-good so_far view good =
+    bound (first_resource so_far.0 view) _ _ _ (resource-is so_far.0 view) (λ found is. each (no_item found.1) _ _ (λ end.
+    All-push (IsLineOf so_far.0) so_far.1 (said.Absent found.0) good is))
+
+free-good : (so_far : Described) (view : ItemsView) → IsGood so_far → IfSome (with_free_line so_far view) IsGood
+unfolding with_free_line
+free-good so_far view good =
+    bound (first_free so_far.0 view) _ _ _ (free-is so_far.0 view) (λ found is. each (no_item found.1) _ _ (λ end.
+    All-push (IsLineOf so_far.0) so_far.1 (said.Free found.0) good is))
+
 row-good : (so_far : Described) (text : List ℕ) → IfSome (with_board_row so_far text) IsGood
 unfolding with_board_row
 row-good so_far text = by so_far.1 where
@@ -145,12 +164,11 @@ step-good : (so_far : Described) (text : List ℕ) → IsGood so_far → IfSome 
 unfolding with_line
 step-good so_far text good =
     each (first_item (items_left text)) _ _ (λ word.
-    either (bytes_eq word.0 CHANNEL.now) (with_channel_line so_far word.1) (if bytes_eq word.0 KEEP.now then with_keep_line so_far word.1 else if bytes_eq word.0 DENY.now then with_deny_line so_far word.1 else with_board_row so_far text) IsGood
-    (channel-good so_far word.1 good)
-    (either (bytes_eq word.0 KEEP.now) (with_keep_line so_far word.1) (if bytes_eq word.0 DENY.now then with_deny_line so_far word.1 else with_board_row so_far text) IsGood
-    (keep-good so_far word.1 good)
-    (either (bytes_eq word.0 DENY.now) (with_deny_line so_far word.1) (with_board_row so_far text) IsGood
-    (deny-good so_far word.1 good) (row-good so_far text))))
+    either (bytes_eq word.0 CHANNEL.now) _ _ _ (channel-good so_far word.1 good)
+    (either (bytes_eq word.0 KEEP.now) _ _ _ (keep-good so_far word.1 good)
+    (either (bytes_eq word.0 DENY.now) _ _ _ (deny-good so_far word.1 good)
+    (either (bytes_eq word.0 ABSENT.now) _ _ _ (absent-good so_far word.1 good)
+    (either (bytes_eq word.0 FREE.now) _ _ _ (free-good so_far word.1 good) (row-good so_far text))))))
 
 lines-good : (last : ℕ) (so_far : Described) (lines : List Line) → IsGood so_far → IfOk (lines_by with_line last so_far lines) (λ found. IsGood found.0)
 unfolding lines_by
@@ -182,12 +200,17 @@ same-rows : (board : Board) (line : BoardLine) → HasRowsOf board (with_board_l
 same-rows board (said.Channel line) = record { agents = refl; domains = refl; clocks = refl; devices = refl }
 same-rows board (said.Keep kept) = record { agents = refl; domains = refl; clocks = refl; devices = refl }
 same-rows board (said.Deny line) = record { agents = refl; domains = refl; clocks = refl; devices = refl }
+same-rows board (said.Absent absent) = record { agents = refl; domains = refl; clocks = refl; devices = refl }
+same-rows board (said.Free c) = record { agents = refl; domains = refl; clocks = refl; devices = refl }
 
 of-same-rows : (a b : Board) (line : BoardLine) → HasRowsOf a b → IsLineOf a line → IsLineOf b line
 of-same-rows a b (said.Channel line) same is = (rw (sym same.agents) is.0, is.1)
 of-same-rows a b (said.Keep (resource.Domain d)) same is = rw (sym same.domains) is
 of-same-rows a b (said.Keep (resource.Clock c)) same is = rw (sym same.clocks) is
 of-same-rows a b (said.Deny line) same is = (rw (sym same.agents) is.0, rw (sym same.devices) is.1)
+of-same-rows a b (said.Absent (resource.Domain d)) same is = rw (sym same.domains) is
+of-same-rows a b (said.Absent (resource.Clock c)) same is = rw (sym same.clocks) is
+of-same-rows a b (said.Free c) same is = rw (sym same.clocks) is
 
 -- a line of a board is one too of the board with what other lines say of it
 pub still-line : (board : Board) (lines : List BoardLine) (line : BoardLine) → IsLineOf board line → IsLineOf (with_lines board lines) line

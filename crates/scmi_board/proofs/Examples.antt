@@ -6,7 +6,7 @@ use Rattle.scmi_plan.specs.Rates as rates
 use Rattle.scmi_plan.specs.declared.clock.Clock.{Clock}
 use Rattle.scmi_plan.specs.declared.resource.Resource.TheVariants as resource
 use Rattle.scmi_plan.specs.declared.scope.Scope.TheVariants as scope
-use Rattle.scmi_board.specs.BoardLines.{first_channel, first_denied, first_options, first_pending, first_resource, first_scope, first_share, with_board_row, with_channel_line, with_deny_line, with_keep_line, with_line}
+use Rattle.scmi_board.specs.BoardLines.{first_channel, first_denied, first_free, first_options, first_pending, first_resource, first_scope, first_share, with_absent_line, with_board_row, with_channel_line, with_deny_line, with_free_line, with_keep_line, with_line}
 use Rattle.scmi_board.specs.Items.{behind_spaces, first_number, item_at, items_left, items_of, items_up_to}
 use Rattle.scmi_board.specs.Lines.{lines_of}
 use Rattle.scmi_board.specs.Number.{number_of}
@@ -94,6 +94,8 @@ small =
       channels = replicate 8 whole_channel;
       kept = nothing_held;
       denied = nothing_denied;
+      absent = nothing_held;
+      free = 0;
     }
   where
     clock : List ℕ → Clock
@@ -127,6 +129,39 @@ denied_device_of_no_row : with_line (small, []) (codes "deny 1 2") ≡ None
 unfolding behind_spaces item_at items_up_to first_denied first_number first_scope number_of with_deny_line with_line
 denied_device_of_no_row = refl
 
+absent_clock : with_line (small, []) (codes "absent clock 1") ≡ Some (small, said.Absent (resource.Clock 1) ∷ [])
+unfolding behind_spaces item_at items_up_to first_number first_resource number_of with_absent_line with_line
+absent_clock = refl
+
+absent_domain : with_line (small, []) (codes "absent domain 0") ≡ Some (small, said.Absent (resource.Domain 0) ∷ [])
+unfolding behind_spaces item_at items_up_to first_number first_resource number_of with_absent_line with_line
+absent_domain = refl
+
+absent_domain_of_no_row : with_line (small, []) (codes "absent domain 1") ≡ None
+unfolding behind_spaces item_at items_up_to first_number first_resource number_of with_absent_line with_line
+absent_domain_of_no_row = refl
+
+free_clock : with_line (small, []) (codes "free clock 1") ≡ Some (small, said.Free 1 ∷ [])
+unfolding behind_spaces item_at items_up_to first_free first_number number_of with_free_line with_line
+free_clock = refl
+
+free_clock_twice : with_line (small, said.Free 1 ∷ []) (codes "free clock 1") ≡ Some (small, said.Free 1 ∷ said.Free 1 ∷ [])
+unfolding behind_spaces item_at items_up_to first_free first_number number_of with_free_line with_line
+free_clock_twice = refl
+
+free_clock_of_no_row : with_line (small, []) (codes "free clock 2") ≡ None
+unfolding behind_spaces item_at items_up_to first_free first_number number_of with_free_line with_line
+free_clock_of_no_row = refl
+
+free_domain : with_line (small, []) (codes "free domain 0") ≡ None
+unfolding behind_spaces item_at items_up_to first_free first_number number_of with_free_line with_line
+free_domain = refl
+
+absent_clock_behind_a_free_one
+    : with_line (small, said.Free 1 ∷ []) (codes "absent clock 0") ≡ Some (small, said.Free 1 ∷ said.Absent (resource.Clock 0) ∷ [])
+unfolding behind_spaces item_at items_up_to first_number first_resource number_of with_absent_line with_line
+absent_clock_behind_a_free_one = refl
+
 row_behind_a_line : with_line (small, said.Keep (resource.Clock 1) ∷ []) (codes "agent mcp") ≡ None
 unfolding behind_spaces item_at items_up_to with_board_row with_line
 row_behind_a_line = refl
@@ -135,6 +170,13 @@ abbrev whole_line : ChannelLine
 whole_line = record { agent = 1; channel = whole_channel }
 
 channel_behind_other_lines
-    : with_line (small, said.Channel whole_line ∷ said.Keep (resource.Clock 1) ∷ []) (codes "channel 1 60") ≡ None
+    : with_line (small, said.Channel whole_line ∷ said.Keep (resource.Clock 1) ∷ said.Absent (resource.Clock 0) ∷ said.Free 1 ∷ []) (codes "channel 1 60")
+    ≡ None
 unfolding behind_spaces item_at items_up_to first_channel first_number first_options number_of with_channel_line with_line
 channel_behind_other_lines = refl
+
+channel_behind_a_free_clock
+    : with_line (small, said.Free 1 ∷ []) (codes "channel 1 60")
+    ≡ Some (small, said.Free 1 ∷ said.Channel (record { agent = 1; channel = record { words = 8; one_way = false; share = 8 } }) ∷ [])
+unfolding behind_spaces item_at items_up_to first_channel first_number first_options number_of with_channel_line with_line
+channel_behind_a_free_clock = refl

@@ -1,4 +1,4 @@
--- A board with lines behind its rows: what channels its agents have, what is kept, what is denied (own).
+-- A board with lines behind its rows: what channels its agents have, what is kept, what is denied, what is absent, which clocks are free (own).
 use Rattle.std.specs.Prelude.{ℕ, ◌<◌, ◌-◌, ◌/◌, ◌^◌, ◌==◌, ◌&&◌, ◌++◌, nat_le, nat_lt, Bool, true, false, if◌then◌else◌, List, [], ◌∷◌, length, Option, Some, None, Result}
 use Rattle.std.specs.List.{fold}
 use Rattle.std.specs.Str.{bytes_eq}
@@ -6,7 +6,7 @@ use Rattle.scmi_codec.specs.ChannelArea.{is_channel_size}
 use Rattle.scmi_codec.specs.declared.clock_command.TheConstants.{CLOCK_PROTOCOL}
 use Rattle.scmi_codec.specs.declared.power_command.TheConstants.{POWER_PROTOCOL}
 use Rattle.scmi_plan.specs.Agent.{IsAgent}
-use Rattle.scmi_plan.specs.Board.{Board, IsChannel, IsOnBoard, with_channel, with_denied, with_kept}
+use Rattle.scmi_plan.specs.Board.{Board, IsChannel, IsOnBoard, with_absent, with_channel, with_denied, with_free, with_kept}
 use Rattle.scmi_plan.specs.RawPlan.{asked_board}
 use Rattle.scmi_plan.specs.declared.limits.TheConstants.{DEVICES, PENDING_SETS}
 use Rattle.scmi_plan.specs.declared.resource.Resource.{Resource}
@@ -22,7 +22,7 @@ use Rattle.scmi_board.specs.declared.board_line.BoardLine.TheVariants as said
 use Rattle.scmi_board.specs.declared.board_with_lines.BoardWithLines.{BoardWithLines}
 use Rattle.scmi_board.specs.declared.channel_line.ChannelLine.{ChannelLine}
 use Rattle.scmi_board.specs.declared.deny_line.DenyLine.{DenyLine}
-use Rattle.scmi_board.specs.declared.words.TheConstants.{CHANNEL, CLOCK, DENY, DOMAIN, KEEP, ONE_WAY, PENDING}
+use Rattle.scmi_board.specs.declared.words.TheConstants.{ABSENT, CHANNEL, CLOCK, DENY, DOMAIN, FREE, KEEP, ONE_WAY, PENDING}
 
 -- a board, and the lines behind its rows
 abbrev pub Described : Type 0
@@ -38,12 +38,16 @@ abbrev pub IsLineOf : Board → BoardLine → Type 0
 IsLineOf board (said.Channel line) = IsAgent (length board.agents) line.agent × IsChannel line.channel
 IsLineOf board (said.Keep kept) = IsOnBoard board kept
 IsLineOf board (said.Deny line) = IsAgent (length board.agents) line.agent × (line.devices < 2 ^ length board.devices)
+IsLineOf board (said.Absent absent) = IsOnBoard board absent
+IsLineOf board (said.Free c) = c < length board.clocks
 
 -- a board with what a line says of it
 abbrev pub with_board_line : Board → BoardLine → Board
 with_board_line board (said.Channel line) = with_channel board line.agent line.channel
 with_board_line board (said.Keep kept) = with_kept board kept
 with_board_line board (said.Deny line) = with_denied board line.agent line.devices line.scope
+with_board_line board (said.Absent absent) = with_absent board absent
+with_board_line board (said.Free c) = with_free board c
 
 -- a board with what these lines say of it
 abbrev pub with_lines : Board → List BoardLine → Board
@@ -91,6 +95,13 @@ first_resource board view = do
       else if bytes_eq word.0 CLOCK.now && nat_lt number.0 (length board.clocks) then Some (resource.Clock number.0, number.1)
       else None
 
+-- clock N, of the board
+unfoldable pub first_free : Board → ItemsView → Option (ℕ × ItemsView)
+first_free board view = do
+  word ← first_item view
+  number ← first_number 32 word.1
+  if bytes_eq word.0 CLOCK.now && nat_lt number.0 (length board.clocks) then Some (number.0, number.1) else None
+
 -- nothing, or the number of a protocol: what is denied of a device
 unfoldable pub first_scope : ItemsView → Option (Scope × ItemsView)
 first_scope view = elim (no_item view) [
@@ -116,6 +127,8 @@ abbrev pub channel_behind : ℕ → BoardLine → ℕ
 channel_behind agent (said.Channel line) = line.agent
 channel_behind agent (said.Keep kept) = agent
 channel_behind agent (said.Deny line) = agent
+channel_behind agent (said.Absent absent) = agent
+channel_behind agent (said.Free c) = agent
 
 -- the agent of the last line `channel` of these lines, 0 if there is none
 abbrev pub last_agent : List BoardLine → ℕ
@@ -144,6 +157,20 @@ with_deny_line so_far view = do
   end ← no_item found.1
   Some (so_far.0, so_far.1 ++ said.Deny found.0 ∷ [])
 
+-- a domain or clock of the board that is not there
+unfoldable pub with_absent_line : Described → ItemsView → Option Described
+with_absent_line so_far view = do
+  found ← first_resource so_far.0 view
+  end ← no_item found.1
+  Some (so_far.0, so_far.1 ++ said.Absent found.0 ∷ [])
+
+-- a clock of the board that takes each rate as it is asked for
+unfoldable pub with_free_line : Described → ItemsView → Option Described
+with_free_line so_far view = do
+  found ← first_free so_far.0 view
+  end ← no_item found.1
+  Some (so_far.0, so_far.1 ++ said.Free found.0 ∷ [])
+
 -- a row of the board, where no other line stands before it
 unfoldable pub with_board_row : Described → List ℕ → Option Described
 with_board_row so_far text = elim so_far.1 [
@@ -158,6 +185,8 @@ with_line so_far text = do
   if bytes_eq word.0 CHANNEL.now then with_channel_line so_far word.1
       else if bytes_eq word.0 KEEP.now then with_keep_line so_far word.1
       else if bytes_eq word.0 DENY.now then with_deny_line so_far word.1
+      else if bytes_eq word.0 ABSENT.now then with_absent_line so_far word.1
+      else if bytes_eq word.0 FREE.now then with_free_line so_far word.1
       else with_board_row so_far text
 
 -- the board and lines that are left up to `end`, and the lines behind it

@@ -13,4 +13,8 @@ pub enum BoardLine {
     Keep(Resource),
     /// What is denied to an agent from the start.
     Deny(DenyLine),
+    /// This has a number on the board and is not there.
+    Absent(Resource),
+    /// The clock of this number takes each rate as it is asked for.
+    Free(u32),
 }

@@ -21,6 +21,12 @@ pub fn apply_line(plan: &mut Plan, line: &BoardLine)
         BoardLine::Deny(said) => {
             let _ = plan.deny(said.agent, said.devices, said.scope);
         }
+        BoardLine::Absent(resource) => {
+            let _ = plan.set_absent(resource);
+        }
+        BoardLine::Free(clock) => {
+            let _ = plan.set_free(clock);
+        }
     }
 }
 

@@ -1,7 +1,7 @@
 //! Boards whose texts have lines behind the rows.
 ghost use Rattle.std.specs.Prelude.{◌≡◌, IfErr};
 ghost use Rattle.scmi_board.specs.BoardText.{GivesBoard, lines_by};
-ghost use Rattle.scmi_board.specs.BoardLines.{described, described_left, last_agent, with_board_row, with_channel_line, with_deny_line, with_keep_line, with_line};
+ghost use Rattle.scmi_board.specs.BoardLines.{described, described_left, last_agent, with_absent_line, with_board_row, with_channel_line, with_deny_line, with_free_line, with_keep_line, with_line};
 ghost use Rattle.scmi_board.specs.Items.{items_left};
 ghost use Rattle.scmi_board.specs.LineError.{Gives, GivesUnless};
 ghost use Rattle.scmi_board.specs.Lines.{last_number, lines_left};
@@ -11,13 +11,14 @@ use crate::board::read_first;
 use crate::board_line::BoardLine;
 use crate::channel_line::read_channel;
 use crate::deny_line::read_denied;
+use crate::free_line::read_free_clock;
 use crate::items::Items;
 use crate::keep_line::read_resource;
 use crate::line_error::LineError;
 use crate::lines::Lines;
 use crate::row::read_row;
 use crate::text_error::TextError;
-use crate::words::{CHANNEL, DENY, END, KEEP};
+use crate::words::{ABSENT, CHANNEL, DENY, END, FREE, KEEP};
 use scmi_plan::RawPlan;
 use std::alloc::{AllocError, Global};
 
@@ -31,7 +32,7 @@ pub struct BoardWithLines {
 
 /// The board from its line `board` to its line `end`, as `read_board`, with these lines between its
 /// rows and `end` (own). They come in any order, and there may be none. AGENT and DEVICE are of the
-/// rows, and so is N of `keep`.
+/// rows, and so is N of `keep`, `absent` and `free`.
 ///
 /// `channel AGENT BYTES [one-way] [pending N]` is what an agent's channels are: the size of their
 /// areas in bytes, 28 + 4k with k from 8 to 64, whether the platform can't send to the agent, and
@@ -42,6 +43,11 @@ pub struct BoardWithLines {
 ///
 /// `deny AGENT DEVICE [PROTOCOL]` denies the agent a device from the start, or one protocol on it,
 /// 0x11 for power or 0x14 for clocks. DEVICE is 0 to 31.
+///
+/// `absent domain N` and `absent clock N` say what is not there, though it has a number: to each
+/// agent it is as one that the board lacks.
+///
+/// `free clock N` says that a clock takes each rate as it is asked for, in Hz, and rounds none.
 ///
 /// `Board` gives the number of the first line of another form, or, if `end` is missing, of the last
 /// line of the input. `Memory` if memory is refused. After an error it is not specified how many
@@ -98,6 +104,12 @@ fn add_line(alloc: Global, board: &mut BoardWithLines, text: &[u8]) -> Result<()
     }
     if word == DENY {
         return add_denied(board, &mut items);
+    }
+    if word == ABSENT {
+        return add_absent(board, &mut items);
+    }
+    if word == FREE {
+        return add_free(board, &mut items);
     }
     add_row(alloc, board, text)
 }
@@ -160,6 +172,36 @@ fn add_denied(board: &mut BoardWithLines, items: &mut Items<'_>) -> Result<(), L
     board
         .lines
         .push(BoardLine::Deny(line))
+        .map_err(AllocError::from)?;
+    Ok(())
+}
+
+/// What follows `absent`.
+#[tactic(auto, unfolding(crate::specs::BoardLines::with_absent_line))]
+fn add_absent(board: &mut BoardWithLines, items: &mut Items<'_>) -> Result<(), LineError>
+    ensures { GivesUnless (λ _. described board.new) result
+        (with_absent_line (described board.old) (items_left items.old)) }
+{
+    let resource = read_resource(items, &board.board)?;
+    items.finish()?;
+    board
+        .lines
+        .push(BoardLine::Absent(resource))
+        .map_err(AllocError::from)?;
+    Ok(())
+}
+
+/// What follows `free`.
+#[tactic(auto, unfolding(crate::specs::BoardLines::with_free_line))]
+fn add_free(board: &mut BoardWithLines, items: &mut Items<'_>) -> Result<(), LineError>
+    ensures { GivesUnless (λ _. described board.new) result
+        (with_free_line (described board.old) (items_left items.old)) }
+{
+    let clock = read_free_clock(items, &board.board)?;
+    items.finish()?;
+    board
+        .lines
+        .push(BoardLine::Free(clock))
         .map_err(AllocError::from)?;
     Ok(())
 }

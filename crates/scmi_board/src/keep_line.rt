@@ -1,4 +1,4 @@
-//! The line of what is kept, as it is read.
+//! What a line keeps or says is absent, as it is read.
 ghost use Rattle.scmi_plan.specs.RawPlan.{asked_board};
 ghost use Rattle.scmi_board.specs.BoardLines.{first_resource};
 ghost use Rattle.scmi_board.specs.Items.{items_left};
@@ -9,7 +9,7 @@ use crate::line_error::LineError;
 use crate::words::{CLOCK, DOMAIN};
 use scmi_plan::{RawPlan, Resource};
 
-/// What follows `keep`: `domain N` or `clock N`, of the board.
+/// What follows `keep` or `absent`: `domain N` or `clock N`, of the board.
 #[tactic(auto, unfolding(crate::specs::BoardLines::first_resource))]
 pub(crate) fn read_resource(items: &mut Items<'_>, board: &RawPlan) -> Result<Resource, LineError>
     ensures { Gives (λ resource. (resource, items_left items.new)) result

@@ -4,8 +4,9 @@
 //! main theorem is the contract of `read_board`: it gives the board that the lines encode, row by
 //! row, or else the number of the first invalid line, unless memory is refused.
 //! `read_board_with_lines` is the same of a text that may have lines behind the rows: what channels
-//! the agents have, what no agent may switch off, and what is denied to agents. `read_valid_board`
-//! is the same of one that has a board which keeps every rule, and nothing after it.
+//! the agents have, what no agent may switch off, what is denied to agents, what is not there, and
+//! which clocks take each rate. `read_valid_board` is the same of one that has a board which keeps
+//! every rule, and nothing after it.
 #![tactic(auto)]
 
 mod board;
@@ -19,6 +20,7 @@ mod deny_line;
 mod device_line;
 mod domain_line;
 mod fields;
+mod free_line;
 mod items;
 mod keep_line;
 mod line_after;

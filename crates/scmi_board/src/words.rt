@@ -28,6 +28,12 @@ pub(crate) const KEEP: &[u8] = b"keep";
 /// The first word of what is denied to an agent.
 pub(crate) const DENY: &[u8] = b"deny";
 
+/// The first word of what has a number and is not there.
+pub(crate) const ABSENT: &[u8] = b"absent";
+
+/// The first word of a clock that takes each rate as it is asked for.
+pub(crate) const FREE: &[u8] = b"free";
+
 /// The line after the last row.
 pub const END: &[u8] = b"end";
 

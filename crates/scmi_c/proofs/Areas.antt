@@ -26,6 +26,7 @@ use Rattle.scmi_core.specs.Situation.{Situation}
 use Rattle.scmi_core.specs.declared.answered.Answered.{Answered}
 use Rattle.scmi_core.specs.declared.answered.Answered.TheVariants as answered
 use Rattle.scmi_core.specs.declared.event.Event.{Event}
+use Rattle.scmi_codec.specs.declared.fault.Fault.{Fault}
 use Rattle.scmi_core.proofs.Channels.{channels}
 use Rattle.scmi_core.proofs.Room.{reply-within, valid_channel}
 use Rattle.scmi_c.specs.Channel.{IsAreaOf}
@@ -139,11 +140,11 @@ committed-in board a h area new frame answered.Reply reply law room is written e
 committed-in board a h area new frame answered.ChannelError reply law room is written error = error refl ∙ ap (λ answer. area_after_answer answer area) is
 
 -- a reply of a status alone has room in each area
-pub one-word : (frame : Frame) (reply : Message) → Reply reply ≡ failed_answer frame → length reply.payload.items ≡ 1
-one-word (Good m) reply is =
-    let same : reply ≡ message_with m.header failed_words = search rules in
+pub one-word : (frame : Frame) (fault : Fault) (reply : Message) → Reply reply ≡ failed_answer frame fault → length reply.payload.items ≡ 1
+one-word (Good m) fault reply is =
+    let same : reply ≡ message_with m.header (failed_words fault) = search rules in
     ap (λ (r : Message). length r.payload.items) same
-one-word (Malformed len header) reply is = absurd (cc)
+one-word (Malformed len header) fault reply is = absurd (cc)
 
 -- MESSAGES
 

@@ -10,9 +10,10 @@ use Rattle.scmi_core.specs.Standing.{Standing, StandsAfter}
 use Rattle.scmi_core.specs.History.{deeds}
 use Rattle.scmi_core.specs.Pending.{pending_sets}
 use Rattle.scmi_core.specs.Value.{completion, set_to_change}
-use Rattle.scmi_core.specs.declared.effect.Effect.{Effect}
+use Rattle.scmi_plan.specs.declared.effect.Effect.{Effect}
 use Rattle.scmi_core.specs.declared.event.Event.{Event}
-use Rattle.scmi_core.specs.declared.event.Event.TheVariants.{Command as Called, Advance, Sent, CommandFailed, AdvanceFailed, Restarted}
+use Rattle.scmi_core.specs.declared.event.Event.TheVariants.{Command as Called, Advance, Sent, CommandFailed, AdvanceFailed, Restarted, Reported}
+use Rattle.scmi_codec.specs.declared.fault.Fault.{Fault}
 use Rattle.scmi_core.specs.declared.pending_set.PendingSet.{PendingSet}
 use Rattle.scmi_core.specs.declared.pending_set.Setting.{Setting}
 use Rattle.scmi_core.specs.declared.pending_set.Setting.TheVariants as setting
@@ -41,12 +42,15 @@ pub starts : (p : Held) → StandsAt p [] → p.said ≡ [] → IsDriven p []
 unfolding asks
 starts p at said = (at, said)
 
--- nothing belongs to a posting and to a restart
+-- nothing belongs to a posting, to a restart and to a report
 pub drives_sent : (p k : Held) (agent : ℕ) → HasHappened p k (Sent agent) → k.said ≡ p.said → Drives p k (Sent agent)
 drives_sent p k agent happened said = drives p k (Sent agent) happened (λ h at. said)
 
 pub drives_restarted : (p k : Held) (agent : ℕ) → HasHappened p k (Restarted agent) → k.said ≡ p.said → Drives p k (Restarted agent)
 drives_restarted p k agent happened said = drives p k (Restarted agent) happened (λ h at. said)
+
+pub drives_reported : (p k : Held) (effect : Effect) → HasHappened p k (Reported effect) → k.said ≡ p.said → Drives p k (Reported effect)
+drives_reported p k effect happened said = drives p k (Reported effect) happened (λ h at. said)
 
 -- a command's change, which was made or refused
 pub drives_made : (p k : Held) (agent : ℕ) (frame : Frame) (effect : Effect) → HasHappened p k (Called agent frame)
@@ -55,11 +59,12 @@ pub drives_made : (p k : Held) (agent : ℕ) (frame : Frame) (effect : Effect) �
 drives_made p k agent frame effect happened is said =
     drives p k (Called agent frame) happened (λ h at. said ∙ ap (λ (o : Option Effect). and_asked p.said (option_map Made o)) (sym (is h at)))
 
-pub drives_refused : (p k : Held) (agent : ℕ) (frame : Frame) (effect : Effect) → HasHappened p k (CommandFailed agent frame)
-    → ((h : List Event) → StandsAt p h → effect_after (board_of p) h (Called agent frame) ≡ Some effect) → k.said ≡ p.said ++ Refused effect ∷ []
-    → Drives p k (CommandFailed agent frame)
-drives_refused p k agent frame effect happened is said =
-    drives p k (CommandFailed agent frame) happened (λ h at. said ∙ ap (λ (o : Option Effect). and_asked p.said (option_map Refused o)) (sym (is h at)))
+pub drives_refused : (p k : Held) (agent : ℕ) (frame : Frame) (effect : Effect) (fault : Fault) → HasHappened p k (CommandFailed agent frame fault)
+    → ((h : List Event) → StandsAt p h → effect_after (board_of p) h (Called agent frame) ≡ Some effect) → k.said ≡ p.said ++ Refused effect fault ∷ []
+    → Drives p k (CommandFailed agent frame fault)
+drives_refused p k agent frame effect fault happened is said =
+    drives p k (CommandFailed agent frame fault) happened
+    (λ h at. said ∙ ap (λ (o : Option Effect). and_asked p.said (option_map (λ effect. Refused effect fault) o)) (sym (is h at)))
 
 -- a command without one
 pub is_unsaid : (p k : Held) (agent : ℕ) (frame : Frame) → HasHappened p k (Called agent frame) → k.said ≡ p.said → IsUnsaid p k agent frame
@@ -90,9 +95,11 @@ pub drives_next : (p k : Held) → HasHappened p k Advance → k.said ≡ and_as
 drives_next p k happened said =
     drives p k Advance happened (λ h at. said ∙ ap (λ (o : Option Effect). and_asked p.said (option_map Made o)) (next_is p.platform h at.0))
 
-pub drives_failed : (p k : Held) → HasHappened p k AdvanceFailed → k.said ≡ and_asked p.said (option_map Refused (next_effect p.platform)) → Drives p k AdvanceFailed
-drives_failed p k happened said =
-    drives p k AdvanceFailed happened (λ h at. said ∙ ap (λ (o : Option Effect). and_asked p.said (option_map Refused o)) (next_is p.platform h at.0))
+pub drives_failed : (p k : Held) (fault : Fault) → HasHappened p k (AdvanceFailed fault)
+    → k.said ≡ and_asked p.said (option_map (λ effect. Refused effect fault) (next_effect p.platform)) → Drives p k (AdvanceFailed fault)
+drives_failed p k fault happened said =
+    drives p k (AdvanceFailed fault) happened
+    (λ h at. said ∙ ap (λ (o : Option Effect). and_asked p.said (option_map (λ effect. Refused effect fault) o)) (next_is p.platform h at.0))
 
 -- an event that happened has happened, whatever is said after it
 pub happened_said : (p k n : Held) (event : Event) → HasHappened p k event → n.platform ≡ k.platform → n.events ≡ k.events → HasHappened p n event
@@ -110,24 +117,25 @@ happened_said p k n event happened platform events = record {
 refused_of-append : (xs ys : List Asked) → refused_of (xs ++ ys) ≡ refused_of xs ++ refused_of ys
 refused_of-append [] ys = refl
 refused_of-append (Made effect ∷ xs) ys = refused_of-append xs ys
-refused_of-append (Refused effect ∷ xs) ys = ap (λ zs. effect ∷ zs) (refused_of-append xs ys)
+refused_of-append (Refused effect fault ∷ xs) ys = ap (λ zs. effect ∷ zs) (refused_of-append xs ys)
 
 made : (o : Option Effect) → refused_of (option_to_list (option_map Made o)) ≡ []
 made None = refl
 made (Some effect) = refl
 
-refused : (o : Option Effect) → refused_of (option_to_list (option_map Refused o)) ≡ option_to_list o
-refused None = refl
-refused (Some effect) = refl
+refused : (fault : Fault) (o : Option Effect) → refused_of (option_to_list (option_map (λ effect. Refused effect fault) o)) ≡ option_to_list o
+refused fault None = refl
+refused fault (Some effect) = refl
 
 -- what is refused at an event is what fails at it
 refused_after : (board : Board) (h : List Event) (event : Event) → refused_of (option_to_list (ask_after board h event)) ≡ option_to_list (failure_after board h event)
 refused_after board h (Called a frame) = made (effect_after board h (Called a frame))
 refused_after board h Advance = made (effect_after board h Advance)
 refused_after board h (Sent a) = refl
-refused_after board h (CommandFailed a frame) = refused (effect_after board h (Called a frame))
-refused_after board h AdvanceFailed = refused (effect_after board h Advance)
+refused_after board h (CommandFailed a frame fault) = refused fault (effect_after board h (Called a frame))
+refused_after board h (AdvanceFailed fault) = refused fault (effect_after board h Advance)
 refused_after board h (Restarted a) = refl
+refused_after board h (Reported effect) = refl
 
 refused_from : (board : Board) (before h : List Event) → refused_of (asks_from board before h) ≡ failures_from board before h
 refused_from board before [] = refl

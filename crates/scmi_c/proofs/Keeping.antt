@@ -1,17 +1,19 @@
 -- A command that was asked about, and its change.
-use Rattle.std.proofs.Common.{rules, ◌≡◌, ◌≢◌, ◌≤◌, ℕ, Bool, true, if◌then◌else◌, List, Option, Some, None, IfSome, IsSomeAnd, sym, subst, ap, ◌∙◌}
+use Rattle.std.proofs.Common.{rules, ◌≡◌, ◌≢◌, ◌≤◌, ◌<◌, ℕ, Bool, true, if◌then◌else◌, List, length, Option, Some, None, IfSome, IsSomeAnd, sym, subst, ap, ◌∙◌}
 use Rattle.scmi_codec.specs.ChannelArea.{channel_words, is_channel_size}
 use Rattle.scmi_codec.specs.declared.frame.Frame.{Frame}
-use Rattle.scmi_plan.specs.Board.{channel_of}
+use Rattle.scmi_plan.specs.Board.{Board, channel_of}
 use Rattle.scmi_core.specs.Effect.{effect_after}
-use Rattle.scmi_core.specs.declared.effect.Effect.{Effect}
+use Rattle.scmi_plan.specs.declared.effect.Effect.{Effect}
+use Rattle.scmi_plan.specs.declared.effect.Effect.TheVariants.{Rate}
 use Rattle.scmi_core.specs.declared.event.Event.{Event}
 use Rattle.scmi_core.specs.declared.event.Event.TheVariants.{Command as Called}
-use Rattle.scmi_c.specs.Calls.{IsAskedAbout}
-use Rattle.scmi_c.specs.Effect.{numbers_of}
+use Rattle.scmi_c.specs.Calls.{HasHappened, IsAskedAbout}
+use Rattle.scmi_c.specs.Effect.{IsRate, numbers_of}
 use Rattle.scmi_c.specs.Kept.{Asked, IsAskable, asked_by, asked_of}
 use Rattle.scmi_c.specs.Standing.{Held, StandsAt, board_of}
 use Rattle.scmi_c.specs.declared.desk.Waiting.{Waiting}
+use Rattle.scmi_c.proofs.RateChanges.{rate-given}
 
 -- what holds of the command that waits
 pub kept-of : (P : Asked → Type 0) (frame : Frame) (waiting : Waiting) → waiting.is_asked ≡ true → IfSome (asked_by frame waiting) P
@@ -27,6 +29,14 @@ effect-is p asked effect may only h at = may.effect h at ∙ ap (λ (e : Effect)
 -- and has these numbers
 pub effect-numbers : (p : Held) (asked : Asked) (effect : Effect) → IsAskable p asked → ((other : Effect) → numbers_of other ≡ asked.change → effect ≡ other) → numbers_of effect ≡ asked.change
 effect-numbers p asked effect may only = ap numbers_of (only may.change may.given) ∙ may.given
+
+-- and if they give a clock a rate, the board has the clock
+pub rate-clock : (p k : Held) (asked : Asked) (event : Event) (effect : Effect) → IsAskable p asked → ((other : Effect) → numbers_of other ≡ asked.change → effect ≡ other)
+    → ((clock rate : ℕ) → effect ≡ Rate clock rate → clock < length (board_of p).clocks) → HasHappened p k event
+    → IsRate asked.change → asked.change.id < length (board_of k).clocks
+rate-clock p k asked event effect may only known happened kind =
+    let given = rate-given may.change asked.change may.given kind in
+    subst (λ (board : Board). asked.change.id < length board.clocks) (sym happened.board) (known asked.change.id given.0 (only may.change may.given ∙ given.1))
 
 -- so there is a change
 pub effect-some : (o : Option Effect) (effect : Effect) → o ≡ Some effect → o ≢ None

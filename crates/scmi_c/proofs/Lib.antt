@@ -5,6 +5,7 @@ mod Codes
 mod Areas
 mod Keeping
 mod Driving
+mod RateChanges
 mod HistoryLaws
 mod WordReplies
 pub mod TableLemmas

@@ -26,15 +26,15 @@ modem = record { name = name (codes "modem"); bytes = 60; one_way = 1; pending =
 
 -- kept
 abbrev cpu : DomainRow
-cpu = record { name = name (codes "cpu"); on = 1; synchronous = 1; asynchronous = 0; notify = 7; kept = 1 }
+cpu = record { name = name (codes "cpu"); on = 1; synchronous = 1; asynchronous = 0; notify = 7; kept = 1; absent = 0 }
 
--- two rates of the table, from its second on
+-- two rates of the table, from its second on; it is not there
 abbrev uart : ClockRow
-uart = record { name = name (codes "uart"); rate = 200; low = 0; high = 0; step = 0; first = 1; count = 2; enabled = 1; kept = 0 }
+uart = record { name = name (codes "uart"); rate = 200; low = 0; high = 0; step = 0; first = 1; count = 2; enabled = 1; kept = 0; absent = 1; free = 0 }
 
--- kept
+-- kept and free
 abbrev bus : ClockRow
-bus = record { name = name (codes "bus"); rate = 1000; low = 1000; high = 5000; step = 1000; first = 9; count = 0; enabled = 0; kept = 7 }
+bus = record { name = name (codes "bus"); rate = 1000; low = 1000; high = 5000; step = 1000; first = 9; count = 0; enabled = 0; kept = 7; absent = 0; free = 1 }
 
 abbrev devices : List DeviceRow
 devices = record { domains = 1; clocks = 2 } ∷ record { domains = 0; clocks = 1 } ∷ []
@@ -46,7 +46,7 @@ phone table = tables_given heading (ap ∷ modem ∷ []) (cpu ∷ []) (uart ∷ 
 abbrev alone : AgentRow → BoardTables
 alone agent = tables_given heading (agent ∷ []) (cpu ∷ []) (bus ∷ []) [] (record { domains = 1; clocks = 1 } ∷ [])
 
--- the board, with its channels, what is kept, and what is denied
+-- the board, with its channels, what is kept, what is denied, what is not there, and what is free
 of-phone : board_of_tables (phone (100 ∷ 200 ∷ 400 ∷ [])) ≡ Ok (record {
   vendor = codes "Acme";
   sub_vendor = codes "Phone";
@@ -59,6 +59,8 @@ of-phone : board_of_tables (phone (100 ∷ 200 ∷ 400 ∷ [])) ≡ Ok (record {
   channels = whole_channel ∷ record { words = 8; one_way = true; share = 2 } ∷ replicate 6 whole_channel;
   kept = record { domains = 1; clocks = 2 };
   denied = record { devices = 0 ∷ 2 ∷ replicate 6 0; power = 0 ∷ 1 ∷ replicate 6 0; clocks = 0 ∷ 3 ∷ replicate 6 0 };
+  absent = record { domains = 0; clocks = 1 };
+  free = 2;
 })
 of-phone = refl
 

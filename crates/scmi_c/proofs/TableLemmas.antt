@@ -1,18 +1,25 @@
 -- Tables of a board, row by row.
-use Rattle.std.proofs.Common.{◌≡◌, ◌<◌, ◌+◌, ℕ, zero, suc, nat_lt, true, Bool, List, [], ◌∷◌, ◌++◌, length, take, drop, get_or, slice_index, refl, sym, ap, subst, ◌∙◌, append_assoc, append-nil, arith, ◌&&◌}
+use Rattle.std.proofs.Common.{◌≡◌, ◌≢◌, ◌<◌, ◌≤◌, ◌⊎◌, inl, inr, ◌+◌, ℕ, zero, suc, nat_le, nat_lt, true, false, Bool, Some, List, [], ◌∷◌, ◌++◌, length, take, drop, get_or, slice_index, refl, sym, ap, subst, ◌∙◌, append_assoc, append-nil, arith, ◌&&◌}
 use Rattle.std.specs.List.{All, list_all, list_any, position_or_len}
 use Rattle.std.specs.Str.{IsUtf8}
 use Rattle.std.proofs.Math.Seq.{take-suc}
 use Rattle.std.proofs.lemmas.Bool.{and_parts, ltb-true}
-use Rattle.std.proofs.lemmas.List.{length-take-le}
-use Rattle.std.proofs.lemmas.List.Elements.{All-take}
+use Rattle.std.proofs.lemmas.Bool.Decides.{leb_tells}
+use Rattle.std.proofs.lemmas.List.{get_or_default, length-take-le}
+use Rattle.std.proofs.lemmas.List.Elements.{All-map, All-take}
 use Rattle.std.proofs.lemmas.List.Sums.{AllPass-from_list_all, fold-append}
 use Rattle.std.proofs.lemmas.Str.{IsUtf8-from_ascii}
+use Rattle.scmi_codec.specs.Name.{IsName}
 use Rattle.scmi_plan.specs.Board.{Board}
+use Rattle.scmi_plan.specs.BoardRows.{HasNames}
+use Rattle.scmi_plan.specs.PlanError.{first_fault, has_valid_counts}
+use Rattle.scmi_plan.specs.declared.plan_error.PlanError.{PlanError}
+use Rattle.scmi_plan.specs.declared.plan_error.PlanError.TheVariants as error
+use Rattle.scmi_plan.proofs.FaultLemmas.{All-of_map, name_fault}
 use Rattle.scmi_board.specs.declared.board_line.BoardLine.{BoardLine}
 use Rattle.scmi_board.specs.declared.board_line.BoardLine.TheVariants as said
 use Rattle.scmi_board.specs.BoardLines.{with_board_line, with_lines}
-use Rattle.scmi_c.specs.Tables.{BoardTables, is_agent_row, is_clock_row, is_domain_row, is_named, is_said_row, is_well_formed, is_zero, lines_from}
+use Rattle.scmi_c.specs.Tables.{HasRowsOf, BoardTables, board_in, clock_in, domain_in, is_agent_row, is_clock_row, is_domain_row, is_named, is_said_row, is_well_formed, is_zero, lines_from, name_in}
 
 -- each byte of a list of ASCII, and what follows it
 below : (bytes : List ℕ) (i : ℕ) → All (λ byte. nat_lt byte 128 ≡ true) bytes → slice_index bytes i < 128
@@ -42,12 +49,50 @@ all_parts t is =
 agents_formed : (t : BoardTables) → is_well_formed t ≡ true → All (λ row. is_agent_row (length t.devices) row ≡ true) t.agents
 agents_formed t is = AllPass-from_list_all (is_agent_row (length t.devices)) t.agents (all_parts t is).0
 
+pub domains_formed : (t : BoardTables) → is_well_formed t ≡ true → All (λ row. is_domain_row row ≡ true) t.domains
+domains_formed t is = AllPass-from_list_all is_domain_row t.domains (all_parts t is).1
+
 pub clocks_formed : (t : BoardTables) → is_well_formed t ≡ true → All (λ row. is_clock_row (length t.rates) row ≡ true) t.clocks
 clocks_formed t is = AllPass-from_list_all (is_clock_row (length t.rates)) t.clocks (all_parts t is).2
 
 pub agents_named : (t : BoardTables) → is_well_formed t ≡ true → All (λ row. is_named row.name ≡ true) t.agents
 agents_named t is = λ k d small.
     (and_parts (is_named (get_or t.agents k d).name) (is_said_row (length t.devices) (get_or t.agents k d)) (agents_formed t is k d small)).0
+
+-- the names of tables whose names are valid, and not, are those of their board
+pub rows_named : (t : BoardTables) → IsName (name_in t.heading.vendor) → IsName (name_in t.heading.sub_vendor) → All (λ row. IsName (name_in row.name)) t.agents
+    → All (λ row. IsName (name_in row.name)) t.domains → All (λ row. IsName (name_in row.name)) t.clocks → HasNames (board_in t)
+rows_named t vendor sub_vendor agents domains clocks = record {
+  vendor = vendor;
+  sub_vendor = sub_vendor;
+  agents = All-map IsName (λ row. name_in row.name) t.agents agents;
+  domains = All-map (λ domain. IsName domain.name) domain_in t.domains domains;
+  clocks = All-map (λ clock. IsName clock.name) (clock_in t.rates) t.clocks clocks;
+}
+
+pub agents_unnamed : (t : BoardTables) → ¬ (All (λ row. IsName (name_in row.name)) t.agents) → ¬ (HasNames (board_in t))
+agents_unnamed t h = λ names. h (All-of_map IsName (λ row. name_in row.name) t.agents names.agents)
+
+pub domains_unnamed : (t : BoardTables) → ¬ (All (λ row. IsName (name_in row.name)) t.domains) → ¬ (HasNames (board_in t))
+domains_unnamed t h = λ names. h (All-of_map (λ domain. IsName domain.name) domain_in t.domains names.domains)
+
+pub clocks_unnamed : (t : BoardTables) → ¬ (All (λ row. IsName (name_in row.name)) t.clocks) → ¬ (HasNames (board_in t))
+clocks_unnamed t h = λ names. h (All-of_map (λ clock. IsName clock.name) (clock_in t.rates) t.clocks names.clocks)
+
+-- an error that a name gave is the first rule that the board breaks
+pub row_fault : (t : BoardTables) (e : PlanError) → has_valid_counts (board_in t) ≡ true
+    → (e ≢ error.Memory → (e ≡ error.Name) × (¬ (HasNames (board_in t)))) → e ≢ error.Memory → first_fault (board_in t) ≡ Some e
+row_fault t e counts is other = let name = is other in name_fault (board_in t) counts name.1 ∙ ap Some (sym name.0)
+
+-- what holds for the first rows, and for the next
+pub all_next : {Row : Type 0} (P : Row → Type 0) (rows : List Row) (i : ℕ) (d : Row) → i < length rows → ((k : ℕ) (d : Row) → k < i → P (get_or rows k d)) → P (get_or rows i d)
+    → (k : ℕ) (d : Row) → k < i + 1 → P (get_or rows k d)
+all_next P rows i d small before here k d' below = pick (leb_tells (suc k) i) where
+  pick : ((nat_le (suc k) i ≡ true) × (suc k ≤ i)) ⊎ ((nat_le (suc k) i ≡ false) × (i < suc k)) → P (get_or rows k d')
+  pick (inl t) = before k d' (omega (arith, t.1))
+  pick (inr t) =
+      let same : i ≡ k = omega (arith, below, t.1) in
+      subst (λ (n : ℕ). P (get_or rows n d')) same (subst P (get_or_default rows i d d' small) here)
 
 -- what the rows of agents say is so of agents beside the devices of the tables
 pub agents_said : (t : BoardTables) → is_well_formed t ≡ true → All (λ row. is_said_row (length t.devices) row ≡ true) t.agents
@@ -85,13 +130,6 @@ row_said lines first start old new rows i number d small same was is =
     ∙ sym (fold-append with_board_line start (lines_from lines first so_far) (lines number row))
     ∙ ap (with_lines start) (sym all)
 
--- the rows of two boards are of the same number
-pub record HasRowsOf (old new : Board) : Type 0 where
-  pub agents : length new.agents ≡ length old.agents
-  pub domains : length new.domains ≡ length old.domains
-  pub clocks : length new.clocks ≡ length old.clocks
-  pub devices : length new.devices ≡ length old.devices
-
 rows_alike : (a b c : Board) → HasRowsOf a b → HasRowsOf b c → HasRowsOf a c
 rows_alike a b c ab bc =
     record { agents = bc.agents ∙ ab.agents; domains = bc.domains ∙ ab.domains; clocks = bc.clocks ∙ ab.clocks; devices = bc.devices ∙ ab.devices }
@@ -100,6 +138,8 @@ rows_of_line : (board : Board) (line : BoardLine) → HasRowsOf board (with_boar
 rows_of_line board (said.Channel line) = record { agents = refl; domains = refl; clocks = refl; devices = refl }
 rows_of_line board (said.Keep kept) = record { agents = refl; domains = refl; clocks = refl; devices = refl }
 rows_of_line board (said.Deny line) = record { agents = refl; domains = refl; clocks = refl; devices = refl }
+rows_of_line board (said.Absent absent) = record { agents = refl; domains = refl; clocks = refl; devices = refl }
+rows_of_line board (said.Free free) = record { agents = refl; domains = refl; clocks = refl; devices = refl }
 
 -- lines add no row
 pub rows_of_lines : (board : Board) (lines : List BoardLine) → HasRowsOf board (with_lines board lines)
@@ -110,3 +150,7 @@ rows_of_lines board (line ∷ lines) =
 
 pub rows_said : (old new : Board) (lines : List BoardLine) → new ≡ with_lines old lines → HasRowsOf old new
 rows_said old new lines is = subst (HasRowsOf old) (sym is) (rows_of_lines old lines)
+
+-- lines behind others
+pub both_said : (board : Board) (first second : List BoardLine) → with_lines (with_lines board first) second ≡ with_lines board (first ++ second)
+both_said board first second = sym (fold-append with_board_line board first second)

@@ -24,6 +24,7 @@ use Rattle.scmi_core.specs.declared.answered.Answered.{Answered}
 use Rattle.scmi_core.specs.declared.answered.Answered.TheVariants as answered
 use Rattle.scmi_core.specs.declared.event.Event.{Event}
 use Rattle.scmi_core.specs.declared.event.Event.TheVariants.{Command as Called}
+use Rattle.scmi_codec.specs.declared.fault.Fault.{Fault}
 use Rattle.scmi_c.proofs.Answering.{reply-header}
 use Rattle.scmi_c.proofs.Areas.{answer-within, one-word}
 use Rattle.scmi_c.specs.Words.{IsWritten, count_of, words_after}
@@ -83,10 +84,10 @@ some-room bytes room size wide =
     omega (arith, long, wide)
 
 -- a reply of a status alone was written
-pub failed-written : (frame : Frame) (reply : Message) (count : ℕ) (before after : List ℕ) → Reply reply ≡ failed_answer frame → 2 ≤ length before
+pub failed-written : (frame : Frame) (fault : Fault) (reply : Message) (count : ℕ) (before after : List ℕ) → Reply reply ≡ failed_answer frame fault → 2 ≤ length before
     → (length reply.payload.items < length before → count ≡ count_of reply)
     → (length reply.payload.items < length before → after ≡ words_after reply before)
-    → IsWritten (failed_answer frame) count before after
-failed-written frame reply count before after is room counted written =
-    let one = one-word frame reply is in
-    written-reply (failed_answer frame) reply (header_word reply.header) count before after is (omega (arith, one, room)) refl counted written
+    → IsWritten (failed_answer frame fault) count before after
+failed-written frame fault reply count before after is room counted written =
+    let one = one-word frame fault reply is in
+    written-reply (failed_answer frame fault) reply (header_word reply.header) count before after is (omega (arith, one, room)) refl counted written

@@ -7,11 +7,13 @@ use Rattle.scmi_codec.specs.declared.message.Message.{Message}
 use Rattle.scmi_plan.specs.Agent.{IsAgent}
 use Rattle.scmi_plan.specs.Board.{Board}
 use Rattle.scmi_plan.specs.Plan.{IsValid}
+use Rattle.scmi_plan.specs.declared.effect.Effect.TheVariants.{Rate}
 use Rattle.scmi_core.specs.Effect.{effect_after}
 use Rattle.scmi_core.specs.History.{answer_to, outbox}
 use Rattle.scmi_core.specs.Reply.{failed_answer}
 use Rattle.scmi_core.specs.declared.event.Event.{Event}
-use Rattle.scmi_core.specs.declared.event.Event.TheVariants.{Command as Called, CommandFailed}
+use Rattle.scmi_core.specs.declared.event.Event.TheVariants.{Command as Called, CommandFailed, Reported}
+use Rattle.scmi_codec.specs.declared.fault.Fault.{Fault}
 use Rattle.scmi_c.specs.Standing.{Held, IsCounted, StandsAt, board_of}
 
 -- one more event has happened to a platform, whose events are counted as before
@@ -25,16 +27,22 @@ pub record HasAnswered (p k : Held) (agent : ℕ) (frame : Frame) (before after 
   pub answer : (h : List Event) → StandsAt p h → after ≡ area_after_answer (answer_to (board_of p) agent frame h) before
   pub event : HasHappened p k (Called agent frame)
 
+-- the same, and then a clock was reported to have a rate; the platform between is as the command left it
+pub record HasAnsweredAtRate (p k : Held) (agent : ℕ) (frame : Frame) (clock rate : ℕ) (before after : List ℕ) : Type 0 where
+  pub between : Held
+  pub answered : HasAnswered p between agent frame before after
+  pub reported : HasHappened between k (Reported (Rate clock rate))
+
 -- a command of an agent of the board waits to be committed or to fail: the platform is as before
 pub record IsAskedAbout (p k : Held) (agent : ℕ) : Type 0 where
   pub is_agent : IsAgent (length (board_of p).agents) agent
   pub same : k ≡ p
   pub valid : IsValid (board_of p)
 
--- an agent's frame failed, and the area is the answer HARDWARE_ERROR to it
-pub record HasFailed (p k : Held) (agent : ℕ) (frame : Frame) (before after : List ℕ) : Type 0 where
-  pub answer : after ≡ area_after_answer (failed_answer frame) before
-  pub event : HasHappened p k (CommandFailed agent frame)
+-- an agent's frame failed with a fault, and the area is the answer to it, the status of the fault
+pub record HasFailed (p k : Held) (agent : ℕ) (frame : Frame) (fault : Fault) (before after : List ℕ) : Type 0 where
+  pub answer : after ≡ area_after_answer (failed_answer frame fault) before
+  pub event : HasHappened p k (CommandFailed agent frame fault)
 
 -- the first message of an agent's outbox is in the area as posted, which held none before
 pub record HasPosted (p : Held) (agent : ℕ) (before after : List ℕ) : Type 0 where

@@ -5,7 +5,7 @@ use Rattle.scmi_codec.specs.declared.frame.Frame.{Frame}
 use Rattle.scmi_plan.specs.Agent.{IsAgent}
 use Rattle.scmi_plan.specs.Board.{channel_of}
 use Rattle.scmi_core.specs.Effect.{effect_after}
-use Rattle.scmi_core.specs.declared.effect.Effect.{Effect}
+use Rattle.scmi_plan.specs.declared.effect.Effect.{Effect}
 use Rattle.scmi_core.specs.declared.event.Event.{Event}
 use Rattle.scmi_core.specs.declared.event.Event.TheVariants.{Command as Called}
 use Rattle.scmi_c.specs.declared.desk.Waiting.{Waiting}

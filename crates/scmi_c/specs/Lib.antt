@@ -5,6 +5,7 @@ pub mod Channel
 pub mod Calls
 pub mod Words
 pub mod Refusal
+pub mod Fault
 pub mod Board
 pub mod Tables
 pub mod Effect

@@ -1,4 +1,4 @@
--- A platform whose hardware has refused nothing, and of which no agent has restarted.
+-- A platform whose hardware has refused and reported nothing, and of which no agent has restarted.
 use Rattle.std.specs.Prelude.{List}
 use Rattle.std.specs.List.{All}
 use Rattle.scmi_core.specs.Plain.{IsPlain}

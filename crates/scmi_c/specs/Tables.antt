@@ -121,7 +121,7 @@ clock_in table row = record { name = name_in row.name; enabled = is_set row.enab
 abbrev pub device_in : DeviceRow → Device
 device_in row = record { domains = row.domains; clocks = row.clocks }
 
--- the board of well-formed tables, with whole channels, of which nothing is kept or denied
+-- the board of well-formed tables, with whole channels, of which nothing is kept or denied, all is there, and no clock is free
 abbrev pub board_in : BoardTables → Board
 board_in t =
     record {
@@ -136,6 +136,8 @@ board_in t =
       channels = replicate AGENTS whole_channel;
       kept = nothing_held;
       denied = nothing_denied;
+      absent = nothing_held;
+      free = 0;
     }
 
 -- how many of the pending sets may be an agent's, all of them if its row says none
@@ -156,17 +158,19 @@ agent_lines agent row =
     ∷ said.Deny (record { agent = agent; devices = row.denied_power; scope = scope.Power })
     ∷ said.Deny (record { agent = agent; devices = row.denied_clocks; scope = scope.Clock }) ∷ []
 
--- that no agent may switch off a domain or clock, if its row says so
-abbrev pub keep_lines : ℕ → Resource → List BoardLine
-keep_lines kept resource = if is_set kept then said.Keep resource ∷ [] else []
+-- a line, if a row says so
+abbrev pub said_if : ℕ → BoardLine → List BoardLine
+said_if flag line = if is_set flag then line ∷ [] else []
 
--- what the row of a domain says beside it
+-- what the row of a domain says beside it: that no agent may switch it off, and that it is not there
 abbrev pub domain_lines : ℕ → DomainRow → List BoardLine
-domain_lines domain row = keep_lines row.kept (resource.Domain domain)
+domain_lines domain row = said_if row.kept (said.Keep (resource.Domain domain)) ++ said_if row.absent (said.Absent (resource.Domain domain))
 
--- what the row of a clock says beside it
+-- what the row of a clock says beside it: the same, and that it takes each rate as it is asked for
 abbrev pub clock_lines : ℕ → ClockRow → List BoardLine
-clock_lines clock row = keep_lines row.kept (resource.Clock clock)
+clock_lines clock row =
+    said_if row.kept (said.Keep (resource.Clock clock)) ++ said_if row.absent (said.Absent (resource.Clock clock))
+    ++ said_if row.free (said.Free clock)
 
 -- the lines of each of these rows, of which the first has this number
 abbrev pub lines_from : {Row : Type 0} → (ℕ → Row → List BoardLine) → ℕ → List Row → List BoardLine
@@ -177,6 +181,13 @@ lines_from lines number (row ∷ rows) = lines number row ++ lines_from lines (s
 abbrev pub lines_in : BoardTables → List BoardLine
 lines_in t =
     lines_from agent_lines 1 t.agents ++ lines_from domain_lines 0 t.domains ++ lines_from clock_lines 0 t.clocks
+
+-- the rows of two boards are of the same number
+pub record HasRowsOf (old new : Board) : Type 0 where
+  pub agents : length new.agents ≡ length old.agents
+  pub domains : length new.domains ≡ length old.domains
+  pub clocks : length new.clocks ≡ length old.clocks
+  pub devices : length new.devices ≡ length old.devices
 
 -- the board of tables with what they say beside it, or the number of its fault
 abbrev pub board_of_tables : BoardTables → Result Board ℕ

@@ -10,10 +10,12 @@ use Rattle.scmi_codec.specs.declared.frame.Answer.TheVariants.{Reply, Released, 
 use Rattle.scmi_codec.specs.declared.message.Message.{Message}
 use Rattle.scmi_plan.specs.Agent.{IsAgent}
 use Rattle.scmi_plan.specs.Board.{channel_of}
+use Rattle.scmi_plan.specs.declared.effect.Effect.TheVariants.{Rate}
 use Rattle.scmi_core.specs.History.{answer_to}
 use Rattle.scmi_core.specs.Reply.{failed_answer}
 use Rattle.scmi_core.specs.declared.event.Event.{Event}
-use Rattle.scmi_core.specs.declared.event.Event.TheVariants.{Command as Called, CommandFailed}
+use Rattle.scmi_core.specs.declared.event.Event.TheVariants.{Command as Called, CommandFailed, Reported}
+use Rattle.scmi_codec.specs.declared.fault.Fault.{Fault}
 use Rattle.scmi_c.specs.Calls.{HasHappened}
 use Rattle.scmi_c.specs.Kept.{Asked}
 use Rattle.scmi_c.specs.Standing.{Held, StandsAt, board_of}
@@ -57,12 +59,22 @@ LacksWords agent words room p =
 abbrev pub LacksRoom : ℕ → Asked → Type 0
 LacksRoom room asked = room < 1 + channel_words asked.bytes
 
+-- so many words have room for as long a reply as the area of a command
+abbrev pub HasRoom : ℕ → Asked → Type 0
+HasRoom room asked = 1 + channel_words asked.bytes ≤ room
+
 -- an agent's frame was executed, and the words are the definition's reply to it at its place in the history
 pub record HasAnsweredWords (p k : Held) (agent : ℕ) (frame : Frame) (count : ℕ) (before after : List ℕ) : Type 0 where
   pub answer : (h : List Event) → StandsAt p h → IsWritten (answer_to (board_of p) agent frame h) count before after
   pub event : HasHappened p k (Called agent frame)
 
--- an agent's frame failed, and the words are the reply HARDWARE_ERROR to it
-pub record HasFailedWords (p k : Held) (agent : ℕ) (frame : Frame) (count : ℕ) (before after : List ℕ) : Type 0 where
-  pub answer : IsWritten (failed_answer frame) count before after
-  pub event : HasHappened p k (CommandFailed agent frame)
+-- the same, and then a clock was reported to have a rate; the platform between is as the command left it
+pub record HasAnsweredWordsAtRate (p k : Held) (agent : ℕ) (frame : Frame) (clock rate count : ℕ) (before after : List ℕ) : Type 0 where
+  pub between : Held
+  pub answered : HasAnsweredWords p between agent frame count before after
+  pub reported : HasHappened between k (Reported (Rate clock rate))
+
+-- an agent's frame failed with a fault, and the words are the reply to it, the status of the fault
+pub record HasFailedWords (p k : Held) (agent : ℕ) (frame : Frame) (fault : Fault) (count : ℕ) (before after : List ℕ) : Type 0 where
+  pub answer : IsWritten (failed_answer frame fault) count before after
+  pub event : HasHappened p k (CommandFailed agent frame fault)

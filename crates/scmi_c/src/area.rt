@@ -19,8 +19,8 @@ use crate::desk::Exchange;
 use crate::held::Held;
 use crate::refusal::Refusal;
 use scmi_codec::{
-    Answer, Payload, is_channel_free, read_channel_area_into, write_channel_answer,
-    write_channel_message, write_channel_response,
+    Payload, is_channel_free, read_channel_area_into, write_channel_error, write_channel_message,
+    write_channel_response,
 };
 use scmi_core::{Answered, Effect};
 
@@ -83,7 +83,7 @@ fn put_answer(area: &mut [u8], answered: Answered, payload: &Payload)
 {
     let _ = match answered {
         Answered::Reply => write_channel_response(area, payload),
-        Answered::ChannelError => write_channel_answer(area, &Answer::ChannelError),
+        Answered::ChannelError => write_channel_error(area),
     };
 }
 

@@ -5,9 +5,9 @@ ghost use Rattle.scmi_c.specs.Tables.{board_of_tables, is_well_formed, tables_of
 ghost use Rattle.scmi_c.specs.declared.code.TheConstants.{MEMORY, TABLE};
 
 use crate::board::rule_code;
-use crate::code::{MEMORY, TABLE};
+use crate::code::TABLE;
 use crate::table_lines::set_lines;
-use crate::tabled::write_down;
+use crate::tabled::checked_plan;
 use crate::tables::{Tables, is_well_formed};
 use scmi_plan::Plan;
 use std::alloc::Global;
@@ -28,10 +28,7 @@ pub fn plan_of_tables(alloc: Global, tables: &Tables<'_>) -> Result<Plan, u32>
     if !is_well_formed(tables) {
         return Err(TABLE);
     }
-    let Ok(raw) = write_down(alloc, tables) else {
-        return Err(MEMORY);
-    };
-    let mut plan = match Plan::check(alloc, &raw) {
+    let mut plan = match checked_plan(alloc, tables) {
         Ok(plan) => plan,
         Err(error) => return Err(rule_code(error)),
     };

@@ -46,8 +46,17 @@ pub const EFFECT: u32 = 13;
 /// The board's tables are not well formed.
 pub const TABLE: u32 = 14;
 
+/// The number is that of no status which says why hardware refused.
+pub const WRONG_STATUS: u32 = 15;
+
 /// What a rule's number is added to.
 pub const RULE: u32 = 16;
+
+/// A domain's state is neither ON nor OFF.
+pub const NO_STATE: u32 = 32;
+
+/// The command that was asked about is to give no clock a rate.
+pub const NO_RATE: u32 = 33;
 
 /// What a line's number is added to.
 pub const LINE: u32 = 256;
@@ -63,5 +72,9 @@ pub fn code(given: Result<(), Refusal>) -> u32
         Err(Refusal::NotFree) => NOT_FREE,
         Err(Refusal::NoFrame) => NO_FRAME,
         Err(Refusal::WrongSize) => WRONG_SIZE,
+        Err(Refusal::WrongStatus) => WRONG_STATUS,
+        Err(Refusal::NoResource) => NO_RESOURCE,
+        Err(Refusal::NoState) => NO_STATE,
+        Err(Refusal::NoRate) => NO_RATE,
     }
 }

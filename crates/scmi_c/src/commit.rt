@@ -3,6 +3,7 @@ ghost use Rattle.std.specs.Prelude.{◌≡◌, ◌≢◌, ◌↔◌, ◌⊎◌, 
 ghost use Rattle.scmi_codec.specs.declared.area.TheConstants.{AREA_BYTES};
 ghost use Rattle.scmi_core.specs.Asked.{Made, Refused};
 ghost use Rattle.scmi_core.specs.declared.event.Event.TheVariants.{Command as Called, CommandFailed};
+ghost use Rattle.scmi_codec.specs.declared.fault.Fault.TheVariants.{HardwareError};
 ghost use Rattle.scmi_c.specs.Calls.{HasAnswered, HasFailed};
 ghost use Rattle.scmi_c.specs.Driven.{Drives, Says};
 ghost use Rattle.scmi_c.specs.Kept.{IsUnasked};
@@ -65,16 +66,17 @@ pub extern "C" fn scmi_fail(
         IsSomeAnd platform.old.value (λ p.
         IsSomeAnd platform.new.value (λ k.
         IsSomeAnd p.asked (λ asked. IsUnasked k
-        × HasFailed p.held k.held asked.agent asked.frame area.old area.new))) }
+        × HasFailed p.held k.held asked.agent asked.frame HardwareError area.old area.new))) }
     ensures driven { result ≡ DONE →
         IsSomeAnd platform.old.value (λ p.
         IsSomeAnd platform.new.value (λ k.
         IsSomeAnd p.asked (λ asked.
-        Drives p.held k.held (CommandFailed asked.agent asked.frame)))) }
+        Drives p.held k.held (CommandFailed asked.agent asked.frame HardwareError)))) }
     ensures said { result ≡ DONE →
         IsSomeAnd platform.old.value (λ p.
         IsSomeAnd platform.new.value (λ k.
-        IsSomeAnd p.asked (λ asked. Says Refused asked.change p.held k.held))) }
+        IsSomeAnd p.asked (λ asked.
+        Says (λ change. Refused change HardwareError) asked.change p.held k.held))) }
     ensures no_platform { (result ≡ NO_PLATFORM) ↔ (platform.old.value ≡ None) }
     ensures nothing { (result ≡ NOTHING) ↔ IsSomeAnd platform.old.value IsUnasked }
     ensures wrong_size { (result ≡ WRONG_SIZE) ↔ IsSomeAnd platform.old.value (λ p.

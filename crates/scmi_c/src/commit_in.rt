@@ -2,6 +2,7 @@
 ghost use Rattle.std.specs.Prelude.{◌≡◌, ◌≢◌, ◌↔◌, ◌⊎◌, None, IsSomeAnd, length};
 ghost use Rattle.scmi_core.specs.Asked.{Made, Refused};
 ghost use Rattle.scmi_core.specs.declared.event.Event.TheVariants.{Command as Called, CommandFailed};
+ghost use Rattle.scmi_codec.specs.declared.fault.Fault.TheVariants.{HardwareError};
 ghost use Rattle.scmi_c.specs.Calls.{HasAnswered, HasFailed};
 ghost use Rattle.scmi_c.specs.Driven.{Drives, Says};
 ghost use Rattle.scmi_c.specs.Kept.{IsUnasked};
@@ -10,6 +11,7 @@ ghost use Rattle.scmi_c.specs.declared.code.TheConstants.{DONE, NOTHING, NO_PLAT
 use crate::code::{NO_PLATFORM, code};
 use crate::handle::Handle;
 use crate::settle::{commit, fail};
+use scmi_codec::Fault;
 use std::alloc::Global;
 
 /// As `scmi_commit`, into an area of the size of its agent's channel.
@@ -53,16 +55,17 @@ pub extern "C" fn scmi_fail_in(alloc: Global, platform: &mut Handle, area: &mut 
         IsSomeAnd platform.old.value (λ p.
         IsSomeAnd platform.new.value (λ k.
         IsSomeAnd p.asked (λ asked. IsUnasked k
-        × HasFailed p.held k.held asked.agent asked.frame area.old area.new))) }
+        × HasFailed p.held k.held asked.agent asked.frame HardwareError area.old area.new))) }
     ensures driven { result ≡ DONE →
         IsSomeAnd platform.old.value (λ p.
         IsSomeAnd platform.new.value (λ k.
         IsSomeAnd p.asked (λ asked.
-        Drives p.held k.held (CommandFailed asked.agent asked.frame)))) }
+        Drives p.held k.held (CommandFailed asked.agent asked.frame HardwareError)))) }
     ensures said { result ≡ DONE →
         IsSomeAnd platform.old.value (λ p.
         IsSomeAnd platform.new.value (λ k.
-        IsSomeAnd p.asked (λ asked. Says Refused asked.change p.held k.held))) }
+        IsSomeAnd p.asked (λ asked.
+        Says (λ change. Refused change HardwareError) asked.change p.held k.held))) }
     ensures no_platform { (result ≡ NO_PLATFORM) ↔ (platform.old.value ≡ None) }
     ensures nothing { (result ≡ NOTHING) ↔ IsSomeAnd platform.old.value IsUnasked }
     ensures wrong_size { (result ≡ WRONG_SIZE) ↔ IsSomeAnd platform.old.value (λ p.
@@ -75,7 +78,7 @@ pub extern "C" fn scmi_fail_in(alloc: Global, platform: &mut Handle, area: &mut 
     let Some(mut desk) = platform.take(alloc) else {
         return NO_PLATFORM;
     };
-    let given = fail(&mut desk, area);
+    let given = fail(&mut desk, area, Some(Fault::HardwareError));
     platform.put(desk);
     code(given)
 }

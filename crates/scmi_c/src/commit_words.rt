@@ -2,6 +2,7 @@
 ghost use Rattle.std.specs.Prelude.{◌≡◌, ◌≢◌, ◌↔◌, ◌⊎◌, None, IsSomeAnd, length};
 ghost use Rattle.scmi_core.specs.Asked.{Made, Refused};
 ghost use Rattle.scmi_core.specs.declared.event.Event.TheVariants.{Command as Called, CommandFailed};
+ghost use Rattle.scmi_codec.specs.declared.fault.Fault.TheVariants.{HardwareError};
 ghost use Rattle.scmi_c.specs.Driven.{Drives, Says};
 ghost use Rattle.scmi_c.specs.Kept.{IsUnasked};
 ghost use Rattle.scmi_c.specs.Words.{HasAnsweredWords, HasFailedWords, LacksRoom};
@@ -10,6 +11,7 @@ ghost use Rattle.scmi_c.specs.declared.code.TheConstants.{DONE, NOTHING, NO_PLAT
 use crate::code::{NO_PLATFORM, code};
 use crate::handle::Handle;
 use crate::settle_words::{commit, fail};
+use scmi_codec::Fault;
 use std::alloc::Global;
 
 /// As `scmi_commit`, and writes the words of the reply over the first of `reply`, and how many they
@@ -67,17 +69,18 @@ pub extern "C" fn scmi_fail_words(
         IsSomeAnd platform.old.value (λ p.
         IsSomeAnd platform.new.value (λ k.
         IsSomeAnd p.asked (λ asked. IsUnasked k
-        × HasFailedWords p.held k.held asked.agent asked.frame
+        × HasFailedWords p.held k.held asked.agent asked.frame HardwareError
         count.new reply.old reply.new))) }
     ensures driven { result ≡ DONE →
         IsSomeAnd platform.old.value (λ p.
         IsSomeAnd platform.new.value (λ k.
         IsSomeAnd p.asked (λ asked.
-        Drives p.held k.held (CommandFailed asked.agent asked.frame)))) }
+        Drives p.held k.held (CommandFailed asked.agent asked.frame HardwareError)))) }
     ensures said { result ≡ DONE →
         IsSomeAnd platform.old.value (λ p.
         IsSomeAnd platform.new.value (λ k.
-        IsSomeAnd p.asked (λ asked. Says Refused asked.change p.held k.held))) }
+        IsSomeAnd p.asked (λ asked.
+        Says (λ change. Refused change HardwareError) asked.change p.held k.held))) }
     ensures no_platform { (result ≡ NO_PLATFORM) ↔ (platform.old.value ≡ None) }
     ensures nothing { (result ≡ NOTHING) ↔ IsSomeAnd platform.old.value IsUnasked }
     ensures wrong_size { (result ≡ WRONG_SIZE) ↔ IsSomeAnd platform.old.value (λ p.
@@ -90,7 +93,7 @@ pub extern "C" fn scmi_fail_words(
     let Some(mut desk) = platform.take(alloc) else {
         return NO_PLATFORM;
     };
-    let given = fail(&mut desk, reply, count);
+    let given = fail(&mut desk, reply, count, Some(Fault::HardwareError));
     platform.put(desk);
     code(given)
 }

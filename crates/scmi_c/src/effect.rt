@@ -1,6 +1,6 @@
 //! Changes of hardware, as numbers for C.
 ghost use Rattle.std.specs.Prelude.{◌≡◌};
-ghost use Rattle.scmi_core.specs.declared.effect.Effect.{Effect};
+ghost use Rattle.scmi_plan.specs.declared.effect.Effect.{Effect};
 ghost use Rattle.scmi_c.specs.Effect.{numbers_of};
 
 use scmi_codec::{rate_of, rate_words};

@@ -5,6 +5,7 @@ ghost use Rattle.scmi_core.specs.Effect.{effect_after};
 ghost use Rattle.scmi_core.specs.History.{IsIdle};
 ghost use Rattle.scmi_core.specs.declared.event.Event.{Event};
 ghost use Rattle.scmi_core.specs.declared.event.Event.TheVariants.{Advance, AdvanceFailed};
+ghost use Rattle.scmi_codec.specs.declared.fault.Fault.TheVariants.{HardwareError};
 ghost use Rattle.scmi_c.specs.Effect.{numbers_of};
 ghost use Rattle.scmi_c.specs.Kept.{IsAsked, IsUnasked};
 ghost use Rattle.scmi_c.specs.Standing.{StandsAt, board_of};
@@ -12,9 +13,10 @@ ghost use Rattle.scmi_c.specs.Calls.{HasHappened};
 ghost use Rattle.scmi_c.specs.Driven.{Drives};
 ghost use Rattle.scmi_c.specs.declared.code.TheConstants.{ASKED, DONE, NOTHING, NO_PLATFORM};
 
-use crate::code::{DONE, NO_PLATFORM, NOTHING};
+use crate::code::{DONE, NO_PLATFORM, NOTHING, code};
 use crate::effect::{EffectNumbers, put_numbers};
 use crate::handle::Handle;
+use scmi_codec::Fault;
 use std::alloc::Global;
 
 /// Gives what the completion of the first pending set is to change of the hardware. `DONE`;
@@ -51,18 +53,20 @@ pub extern "C" fn scmi_ask_advance(
     }
 }
 
-/// Takes off the first pending set, whose change the hardware refused. `DONE`; `NO_PLATFORM`;
-/// `ASKED` if a command waits to be committed or to fail; `NOTHING` if none is pending. After
-/// another number than `DONE` nothing changed.
+/// Takes off the first pending set, whose change the hardware refused; its delayed response, if one
+/// was asked for, is HARDWARE_ERROR. `DONE`; `NO_PLATFORM`; `ASKED` if a command waits to be
+/// committed or to fail; `NOTHING` if none is pending. After another number than `DONE` nothing
+/// changed.
 #[unsafe(no_mangle)]
 pub extern "C" fn scmi_fail_advance(alloc: Global, platform: &mut Handle) -> u32
     ensures done { result ≡ DONE →
         IsSomeAnd platform.old.value (λ p.
         IsSomeAnd platform.new.value (λ k.
-        IsUnasked k × HasHappened p.held k.held AdvanceFailed)) }
+        IsUnasked k × HasHappened p.held k.held (AdvanceFailed HardwareError))) }
     ensures driven { result ≡ DONE →
         IsSomeAnd platform.old.value (λ p.
-        IsSomeAnd platform.new.value (λ k. Drives p.held k.held AdvanceFailed)) }
+        IsSomeAnd platform.new.value (λ k.
+        Drives p.held k.held (AdvanceFailed HardwareError))) }
     ensures nothing { IfSome platform.old.value (λ p. IsUnasked p →
         (h : List Event) → StandsAt p.held h →
         (result ≡ NOTHING) ↔ IsIdle (board_of p.held) h) }
@@ -75,7 +79,7 @@ pub extern "C" fn scmi_fail_advance(alloc: Global, platform: &mut Handle) -> u32
         Ok(desk) => desk,
         Err(number) => return number,
     };
-    let given = desk.held.advance_failed();
+    let given = desk.held.advance_failed(Some(Fault::HardwareError));
     platform.put(desk);
-    if given { DONE } else { NOTHING }
+    code(given)
 }

@@ -1,20 +1,22 @@
 //! What a handle holds.
-ghost use Rattle.std.specs.Prelude.{◌≡◌, ◌≢◌, ◌↔◌, ◌⊎◌, ◌++◌, ◌∷◌, [], List, length, true, false, Some, None, IfOk, OnOk, OnErr, IfErr, Err};
+ghost use Rattle.std.specs.Prelude.{◌≡◌, ◌≢◌, ◌<◌, ◌↔◌, ◌⊎◌, ◌++◌, ◌∷◌, [], ℕ, List, length, true, false, Some, None, IfOk, IsSomeAnd, OnOk, OnErr, IfErr, Err};
 ghost use Rattle.scmi_codec.specs.declared.frame.Answer.TheVariants.{Reply};
 ghost use Rattle.scmi_plan.specs.Agent.{IsAgent};
 ghost use Rattle.scmi_plan.specs.Plan.{IsValid};
+ghost use Rattle.scmi_plan.specs.declared.effect.Effect.TheVariants.{Enabled, Rate};
 ghost use Rattle.scmi_core.specs.Asked.{Made, Refused};
 ghost use Rattle.scmi_core.specs.Effect.{effect_after};
 ghost use Rattle.scmi_core.specs.History.{IsIdle, HasNothingFor, answer_to, answer_with};
 ghost use Rattle.scmi_core.specs.Reply.{failed_answer};
+ghost use Rattle.scmi_core.specs.Value.{HasNoResource, HasNoState};
 ghost use Rattle.scmi_core.specs.declared.event.Event.{Event};
-ghost use Rattle.scmi_core.specs.declared.event.Event.TheVariants.{Command as Called, Advance, Sent, CommandFailed, AdvanceFailed, Restarted};
+ghost use Rattle.scmi_core.specs.declared.event.Event.TheVariants.{Command as Called, Advance, Sent, CommandFailed, AdvanceFailed, Restarted, Reported};
 ghost use Rattle.scmi_c.specs.Calls.{HasHappened};
-ghost use Rattle.scmi_c.specs.Driven.{Drives, IsDriven, IsUnsaid};
+ghost use Rattle.scmi_c.specs.Driven.{Drives, HappenInTurn, IsDriven, IsUnsaid};
 ghost use Rattle.scmi_c.specs.Standing.{IsCount, IsCounted, LacksAgent, StandsAt, board_of};
 
 use crate::refusal::Refusal;
-use scmi_codec::{Frame, Message};
+use scmi_codec::{Fault, Frame, Message};
 use scmi_core::{Answered, CoreError, Effect, Platform, Said, Saying, may_change};
 use scmi_plan::Plan;
 use std::marker::Model;
@@ -95,22 +97,36 @@ impl Held {
         true
     }
 
-    /// Takes off the first pending set, whose change the hardware refused; `false` if none is
-    /// pending, and then nothing changed.
-    pub fn advance_failed(&mut self) -> bool
-        ensures waiting { (h : List Event) → StandsAt self.old h →
-            (result ≡ false) ↔ IsIdle (board_of self.old) h }
-        ensures event { result ≡ true → HasHappened self.old self.new AdvanceFailed }
-        ensures driven { result ≡ true → Drives self.old self.new AdvanceFailed }
-        ensures same { result ≡ false → self.new ≡ self.old }
+    /// Takes off the first pending set, whose change the hardware refused with this fault.
+    /// `Nothing` if none is pending, else `WrongStatus` if there is no fault; then nothing changed.
+    pub fn advance_failed(&mut self, fault: Option<Fault>) -> Result<(), Refusal>
+        ensures event { OnOk result (IsSomeAnd fault (λ fault.
+            HasHappened self.old self.new (AdvanceFailed fault))) }
+        ensures driven { OnOk result (IsSomeAnd fault (λ fault.
+            Drives self.old self.new (AdvanceFailed fault))) }
+        ensures nothing { (h : List Event) → StandsAt self.old h →
+            (result ≡ Err Refusal.Nothing) ↔ IsIdle (board_of self.old) h }
+        ensures wrong_status { (h : List Event) → StandsAt self.old h →
+            (result ≡ Err Refusal.WrongStatus)
+            ↔ ((¬ (IsIdle (board_of self.old) h)) × (fault ≡ None)) }
+        ensures errors { IfErr result (λ e.
+            (e ≡ Refusal.Nothing) ⊎ ((e ≡ Refusal.WrongStatus) × (fault ≡ None))) }
+        ensures err { OnErr result (self.new ≡ self.old) }
     {
-        let said = self.said.and(&Saying::Failed(&self.platform));
-        if !self.platform.advance_failed() {
-            return false;
+        let Some(fault) = fault else {
+            return if self.platform.pending_sets().is_empty() {
+                Err(Refusal::Nothing)
+            } else {
+                Err(Refusal::WrongStatus)
+            };
+        };
+        let said = self.said.and(&Saying::Failed(&self.platform, fault));
+        if !self.platform.advance_failed(fault) {
+            return Err(Refusal::Nothing);
         }
         self.said = said;
         count(&mut self.events);
-        true
+        Ok(())
     }
 
     /// Takes the first message off an agent's outbox, as posted. `NoAgent` if the board lacks the
@@ -150,6 +166,55 @@ impl Held {
         Ok(())
     }
 
+    /// Takes over a change that the hardware made by itself. `NoResource` if the board lacks the
+    /// domain or clock, and `NoState` if a domain's state is neither ON nor OFF; then nothing
+    /// changed.
+    pub fn report(&mut self, effect: Effect) -> Result<(), Refusal>
+        ensures event { OnOk result (HasHappened self.old self.new (Reported effect)) }
+        ensures driven { OnOk result (Drives self.old self.new (Reported effect)) }
+        ensures said { self.new.said ≡ self.old.said }
+        ensures no_resource { (result ≡ Err Refusal.NoResource)
+            ↔ HasNoResource (board_of self.old) effect }
+        ensures no_state { (result ≡ Err Refusal.NoState)
+            ↔ HasNoState (board_of self.old) effect }
+        ensures errors { IfErr result (λ e. (e ≡ Refusal.NoResource) ⊎ (e ≡ Refusal.NoState)) }
+        ensures err { OnErr result (self.new ≡ self.old) }
+    {
+        match self.platform.report(effect) {
+            Ok(()) => {
+                count(&mut self.events);
+                Ok(())
+            }
+            Err(CoreError::NoState) => Err(Refusal::NoState),
+            Err(_) => Err(Refusal::NoResource),
+        }
+    }
+
+    /// Takes over the rate that the hardware has given a clock, and then whether it is enabled.
+    /// `NoResource` if the board lacks the clock, the only refusal; then nothing changed.
+    pub fn report_clock(&mut self, clock: u32, rate: u64, enabled: bool) -> Result<(), Refusal>
+        ensures ok { OnOk result (HappenInTurn self.old self.new
+            (Reported (Rate clock rate)) (Reported (Enabled clock enabled))) }
+        ensures no_resource { (result ≡ Err Refusal.NoResource)
+            ↔ HasNoResource (board_of self.old) (Rate clock rate) }
+        ensures errors { IfErr result (λ e. e ≡ Refusal.NoResource) }
+        ensures err { OnErr result (self.new ≡ self.old) }
+    {
+        self.report(Effect::Rate { clock, rate })?;
+        self.report(Effect::Enabled { clock, enabled })
+    }
+
+    /// As `report`, of the rate of a clock of the board.
+    pub fn report_rate(&mut self, clock: u32, rate: u64)
+        requires clock { clock < length (board_of self.old).clocks }
+        ensures event { HasHappened self.old self.new (Reported (Rate clock rate)) }
+        ensures driven { Drives self.old self.new (Reported (Rate clock rate)) }
+        ensures said { self.new.said ≡ self.old.said }
+    {
+        // Never refused, since the board has the clock.
+        let _ = self.report(Effect::Rate { clock, rate });
+    }
+
     /// What an agent's command is to change of the hardware, before it is executed; `None` if it
     /// changes nothing of it. `NoAgent` if the board lacks the agent.
     #[inline(always)]
@@ -173,7 +238,7 @@ impl Held {
     }
 
     /// Executes a command whose change the hardware has made, which is said of it; nothing is
-    /// decided again.
+    /// decided again. If it gives a clock a rate, the board has the clock.
     #[inline(always)]
     pub fn commit(
         &mut self,
@@ -191,6 +256,8 @@ impl Held {
         ensures event { HasHappened self.old self.new (Called agent frame.now) }
         ensures driven { Drives self.old self.new (Called agent frame.now) }
         ensures said { self.new.said ≡ self.old.said ++ Made effect ∷ [] }
+        ensures clock { (clock rate : ℕ) → effect ≡ Rate clock rate
+            → clock < length (board_of self.old).clocks }
     {
         let answered = self.platform.commit(agent, frame, effect, reply);
         self.said = self.said.and(&Saying::Made(effect));
@@ -200,29 +267,36 @@ impl Held {
 
     /// As `command_failed`, and says of the hardware that it refused the change.
     #[inline(always)]
-    pub fn refuse(&mut self, agent: u32, frame: &Frame, effect: Effect, reply: &mut Message)
+    pub fn refuse(
+        &mut self,
+        agent: u32,
+        frame: &Frame,
+        effect: Effect,
+        fault: Fault,
+        reply: &mut Message,
+    )
         requires agent { IsAgent (length (board_of self.old).agents) agent }
         requires effect { (h : List Event) → StandsAt self.old h →
             effect_after (board_of self.old) h (Called agent frame.now) ≡ Some effect }
-        ensures answer { Reply reply.new ≡ failed_answer frame.now }
-        ensures event { HasHappened self.old self.new (CommandFailed agent frame.now) }
-        ensures driven { Drives self.old self.new (CommandFailed agent frame.now) }
-        ensures said { self.new.said ≡ self.old.said ++ Refused effect ∷ [] }
+        ensures answer { Reply reply.new ≡ failed_answer frame.now fault }
+        ensures event { HasHappened self.old self.new (CommandFailed agent frame.now fault) }
+        ensures driven { Drives self.old self.new (CommandFailed agent frame.now fault) }
+        ensures said { self.new.said ≡ self.old.said ++ Refused effect fault ∷ [] }
     {
-        self.command_failed(agent, frame, reply);
-        self.said = self.said.and(&Saying::Refused(effect));
+        self.command_failed(agent, frame, fault, reply);
+        self.said = self.said.and(&Saying::Refused(effect, fault));
     }
 
-    /// Answers a command whose change the hardware refused by HARDWARE_ERROR.
-    fn command_failed(&mut self, agent: u32, frame: &Frame, reply: &mut Message)
+    /// Answers a command whose change the hardware refused by the status of this fault.
+    fn command_failed(&mut self, agent: u32, frame: &Frame, fault: Fault, reply: &mut Message)
         requires agent { IsAgent (length (board_of self.old).agents) agent }
         requires effect { (h : List Event) → StandsAt self.old h →
             effect_after (board_of self.old) h (Called agent frame.now) ≢ None }
-        ensures answer { Reply reply.new ≡ failed_answer frame.now }
-        ensures event { HasHappened self.old self.new (CommandFailed agent frame.now) }
+        ensures answer { Reply reply.new ≡ failed_answer frame.now fault }
+        ensures event { HasHappened self.old self.new (CommandFailed agent frame.now fault) }
         ensures said { self.new.said ≡ self.old.said }
     {
-        match self.platform.command_failed(agent, frame, reply) {
+        match self.platform.command_failed(agent, frame, fault, reply) {
             Ok(()) => count(&mut self.events),
             // Never, since the board has the agent and there is an effect.
             Err(_) => {}

@@ -4,7 +4,7 @@ ghost use Rattle.scmi_c.specs.Numbers.{numbers_of_library, version_of_library};
 
 use crate::code::{
     ASKED, DONE, EFFECT, IN_USE, LINE, MEMORY, NO_AGENT, NO_FRAME, NO_HISTORY, NO_PLATFORM,
-    NO_RESOURCE, NOT_FREE, NOTHING, RULE, TABLE, WRONG_SIZE,
+    NO_RATE, NO_RESOURCE, NO_STATE, NOT_FREE, NOTHING, RULE, TABLE, WRONG_SIZE, WRONG_STATUS,
 };
 use crate::effect::{ENABLED, RATE, STATE};
 use scmi_codec::{AREA_BYTES, PAYLOAD_WORDS};
@@ -32,7 +32,10 @@ pub struct Numbers {
     pub asked: u32,
     pub effect: u32,
     pub table: u32,
+    pub wrong_status: u32,
     pub rule: u32,
+    pub no_state: u32,
+    pub no_rate: u32,
     pub line: u32,
     pub effect_state: u32,
     pub effect_rate: u32,
@@ -61,7 +64,10 @@ pub extern "C" fn scmi_numbers(numbers: &mut Numbers)
         asked: ASKED,
         effect: EFFECT,
         table: TABLE,
+        wrong_status: WRONG_STATUS,
         rule: RULE,
+        no_state: NO_STATE,
+        no_rate: NO_RATE,
         line: LINE,
         effect_state: STATE,
         effect_rate: RATE,

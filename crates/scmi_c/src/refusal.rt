@@ -19,4 +19,16 @@ pub enum Refusal {
     /// The area has not the size of the agent's channel.
     #[error("the area has not the size of the channel")]
     WrongSize = 6,
+    /// The number is that of no status which says why hardware refused.
+    #[error("the number is no status of hardware that refused")]
+    WrongStatus = 7,
+    /// The board lacks the domain or clock.
+    #[error("the board has no such domain or clock")]
+    NoResource = 8,
+    /// A domain's state is neither ON nor OFF.
+    #[error("the state is neither on nor off")]
+    NoState = 9,
+    /// The command that was asked about is to give no clock a rate.
+    #[error("the command is to give no clock a rate")]
+    NoRate = 10,
 }

@@ -26,8 +26,8 @@ pub struct AgentRow {
     pub denied_clocks: u32,
 }
 
-/// A power domain: its name, whether it is ON at the start, what it supports, and whether no agent
-/// may switch it off.
+/// A power domain: its name, whether it is ON at the start, what it supports, whether no agent may
+/// switch it off, and whether it is not there.
 #[repr(C)]
 #[derive(Clone, Copy)]
 pub struct DomainRow {
@@ -37,10 +37,12 @@ pub struct DomainRow {
     pub asynchronous: u32,
     pub notify: u32,
     pub kept: u32,
+    pub absent: u32,
 }
 
 /// A clock: its name, its starting rate in Hz, whether it is enabled at the start, whether no agent
-/// may switch it off, and its rates. If `count` is not 0, they are `count` rows of the table of
+/// may switch it off, whether it is not there, whether it takes each rate as it is asked for, and
+/// its rates. If `count` is not 0, they are `count` rows of the table of
 /// rates, from the row `first` on; else every `step` from `low` to `high`.
 #[repr(C)]
 #[derive(Clone, Copy)]
@@ -54,6 +56,8 @@ pub struct ClockRow {
     pub count: u32,
     pub enabled: u32,
     pub kept: u32,
+    pub absent: u32,
+    pub free: u32,
 }
 
 /// A device: the domains and the clocks that it holds, bit i for domain or clock i.
@@ -69,8 +73,8 @@ const _: () = prove!(size_of::<HeadingRow>() == 40);
 
 const _: () = prove!(size_of::<AgentRow>() == 40);
 
-const _: () = prove!(size_of::<DomainRow>() == 36);
+const _: () = prove!(size_of::<DomainRow>() == 40);
 
-const _: () = prove!(size_of::<ClockRow>() == 64);
+const _: () = prove!(size_of::<ClockRow>() == 72);
 
 const _: () = prove!(size_of::<DeviceRow>() == 8);

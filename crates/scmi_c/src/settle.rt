@@ -1,5 +1,5 @@
 //! A command that was asked about is committed, or fails.
-ghost use Rattle.std.specs.Prelude.{◌≡◌, ◌≢◌, ◌↔◌, ◌⊎◌, ◌≤◌, length, IfErr, IfOk, IsSomeAnd, OnOk, OnErr, Err, true};
+ghost use Rattle.std.specs.Prelude.{◌≡◌, ◌≢◌, ◌↔◌, ◌⊎◌, ◌≤◌, ◌<◌, length, IfErr, IfOk, IsSomeAnd, OnOk, OnErr, None, Err, true};
 ghost use Rattle.scmi_codec.specs.Area.{area_after_answer};
 ghost use Rattle.scmi_codec.specs.ChannelArea.{capacity, is_channel_size};
 ghost use Rattle.scmi_codec.specs.declared.frame.Answer.TheVariants as frame_answer;
@@ -8,18 +8,21 @@ ghost use Rattle.scmi_core.specs.declared.answered.Answered.TheVariants as answe
 ghost use Rattle.scmi_core.specs.declared.event.Event.TheVariants.{Command as Called, CommandFailed};
 ghost use Rattle.scmi_c.specs.Calls.{HasAnswered, HasFailed};
 ghost use Rattle.scmi_c.specs.Driven.{Drives, Says};
+ghost use Rattle.scmi_c.specs.Effect.{IsRate};
 ghost use Rattle.scmi_c.specs.Kept.{IsUnasked};
+ghost use Rattle.scmi_c.specs.Standing.{board_of};
 
 use crate::desk::Desk;
 use crate::effect::effect_of;
 use crate::refusal::Refusal;
-use scmi_codec::{Answer, Message, write_channel_answer, write_channel_reply};
+use scmi_codec::{Fault, Message, write_channel_error, write_channel_reply};
 use scmi_core::Answered;
 
 /// Executes the command that was asked about, whose change the hardware has made, and writes its
 /// answer whole: nothing of the area is read, and nothing is decided again. `Nothing` if no command
 /// was asked about, `WrongSize` if the area has not the size of the area that held the command;
-/// then nothing changed. It is refused for nothing else.
+/// then nothing changed. It is refused for nothing else. If the command gives a clock a rate, the
+/// board has the clock.
 pub fn commit(desk: &mut Desk, area: &mut [u8]) -> Result<(), Refusal>
     ensures ok { OnOk result (IsSomeAnd desk.old.asked (λ asked.
         HasAnswered desk.old.held desk.new.held asked.agent asked.frame area.old area.new)) }
@@ -27,6 +30,8 @@ pub fn commit(desk: &mut Desk, area: &mut [u8]) -> Result<(), Refusal>
         Drives desk.old.held desk.new.held (Called asked.agent asked.frame))) }
     ensures said { OnOk result (IsSomeAnd desk.old.asked (λ asked.
         Says Made asked.change desk.old.held desk.new.held)) }
+    ensures clock { OnOk result (IsSomeAnd desk.old.asked (λ asked. IsRate asked.change →
+        asked.change.id < length (board_of desk.new.held).clocks)) }
     ensures unasked { OnOk result (IsUnasked desk.new) }
     ensures nothing { (result ≡ Err Refusal.Nothing) ↔ IsUnasked desk.old }
     ensures wrong_size { (result ≡ Err Refusal.WrongSize) ↔
@@ -54,22 +59,25 @@ pub fn commit(desk: &mut Desk, area: &mut [u8]) -> Result<(), Refusal>
     Ok(())
 }
 
-/// Answers the command that was asked about, whose change the hardware refused, by HARDWARE_ERROR,
-/// and writes its answer whole: nothing of the area is read. `Nothing` if no command was asked
-/// about, `WrongSize` if the area has not the size of the area that held the command; then nothing
-/// changed. It is refused for nothing else.
-pub fn fail(desk: &mut Desk, area: &mut [u8]) -> Result<(), Refusal>
-    ensures ok { OnOk result (IsSomeAnd desk.old.asked (λ asked.
-        HasFailed desk.old.held desk.new.held asked.agent asked.frame area.old area.new)) }
-    ensures driven { OnOk result (IsSomeAnd desk.old.asked (λ asked.
-        Drives desk.old.held desk.new.held (CommandFailed asked.agent asked.frame))) }
-    ensures said { OnOk result (IsSomeAnd desk.old.asked (λ asked.
-        Says Refused asked.change desk.old.held desk.new.held)) }
+/// Answers the command that was asked about, whose change the hardware refused with this fault, by
+/// its status, and writes its answer whole: nothing of the area is read. `Nothing` if no command
+/// was asked about, `WrongSize` if the area has not the size of the area that held the command, and
+/// last `WrongStatus` if there is no fault; then nothing changed. It is refused for nothing else.
+pub fn fail(desk: &mut Desk, area: &mut [u8], fault: Option<Fault>) -> Result<(), Refusal>
+    ensures ok { OnOk result (IsSomeAnd fault (λ fault. IsSomeAnd desk.old.asked (λ asked.
+        HasFailed desk.old.held desk.new.held asked.agent asked.frame fault area.old area.new))) }
+    ensures driven { OnOk result (IsSomeAnd fault (λ fault. IsSomeAnd desk.old.asked (λ asked.
+        Drives desk.old.held desk.new.held (CommandFailed asked.agent asked.frame fault)))) }
+    ensures said { OnOk result (IsSomeAnd fault (λ fault. IsSomeAnd desk.old.asked (λ asked.
+        Says (λ change. Refused change fault) asked.change desk.old.held desk.new.held))) }
     ensures unasked { OnOk result (IsUnasked desk.new) }
     ensures nothing { (result ≡ Err Refusal.Nothing) ↔ IsUnasked desk.old }
     ensures wrong_size { (result ≡ Err Refusal.WrongSize) ↔
         IsSomeAnd desk.old.asked (λ asked. asked.bytes ≢ length area.old) }
-    ensures errors { IfErr result (λ e. (e ≡ Refusal.Nothing) ⊎ (e ≡ Refusal.WrongSize)) }
+    ensures wrong_status { (result ≡ Err Refusal.WrongStatus) ↔
+        IsSomeAnd desk.old.asked (λ asked. (asked.bytes ≡ length area.old) × (fault ≡ None)) }
+    ensures errors { IfErr result (λ e. (e ≡ Refusal.Nothing) ⊎ (e ≡ Refusal.WrongSize) ⊎
+        ((e ≡ Refusal.WrongStatus) × (fault ≡ None))) }
     ensures err { OnErr result (desk.new ≡ desk.old) }
     ensures kept { OnErr result (area.new ≡ area.old) }
 {
@@ -80,11 +88,15 @@ pub fn fail(desk: &mut Desk, area: &mut [u8]) -> Result<(), Refusal>
     if area.len() != waiting.bytes {
         return Err(Refusal::WrongSize);
     }
+    let Some(fault) = fault else {
+        return Err(Refusal::WrongStatus);
+    };
     let effect = effect_of(&waiting.change);
     desk.held.refuse(
         waiting.agent,
         &desk.exchange.frame,
         effect,
+        fault,
         &mut desk.exchange.reply,
     );
     write_whole(area, Answered::Reply, &desk.exchange.reply);
@@ -105,6 +117,6 @@ fn write_whole(area: &mut [u8], answered: Answered, reply: &Message)
 {
     let _ = match answered {
         Answered::Reply => write_channel_reply(area, reply),
-        Answered::ChannelError => write_channel_answer(area, &Answer::ChannelError),
+        Answered::ChannelError => write_channel_error(area),
     };
 }

@@ -1,10 +1,11 @@
-//! What the rows of a board's tables say beside the board: channels, what is kept, what is denied.
+//! What the rows of a board's tables say beside the board: channels, what is denied, what is kept,
+//! what is not there, and which clocks are free.
 ghost use Rattle.std.specs.Prelude.{◌≡◌, ◌<◌, ◌^◌, length, true};
 ghost use Rattle.std.specs.List.{All};
 ghost use Rattle.scmi_plan.specs.Agent.{IsAgent};
-ghost use Rattle.scmi_plan.specs.Board.{IsChannel, IsOnBoard, with_denied};
-ghost use Rattle.scmi_board.specs.BoardLines.{with_lines};
-ghost use Rattle.scmi_c.specs.Tables.{agent_lines, board_in, channel_in, clock_lines, domain_lines, is_channel_row, is_said_row, is_share_row, is_well_formed, keep_lines, lines_from, lines_in, share_in, tables_of};
+ghost use Rattle.scmi_plan.specs.Board.{IsChannel, with_denied};
+ghost use Rattle.scmi_board.specs.BoardLines.{IsLineOf, with_lines};
+ghost use Rattle.scmi_c.specs.Tables.{agent_lines, board_in, channel_in, clock_lines, domain_lines, is_channel_row, is_said_row, is_share_row, is_well_formed, lines_from, lines_in, said_if, share_in, tables_of, HasRowsOf};
 
 use crate::rows::{AgentRow, ClockRow, DomainRow};
 use crate::tables::Tables;
@@ -19,8 +20,8 @@ pub fn set_lines(plan: &mut Plan, tables: &Tables<'_>)
     ensures lines { plan.new ≡ with_lines plan.old (lines_in (tables_of tables.now)) }
 {
     set_agents(plan, tables.agents);
-    keep_domains(plan, tables.domains);
-    keep_clocks(plan, tables.clocks);
+    set_domains(plan, tables.domains);
+    set_clocks(plan, tables.clocks);
 }
 
 fn set_agents(plan: &mut Plan, rows: &[AgentRow])
@@ -62,37 +63,60 @@ fn deny(plan: &mut Plan, agent: u32, devices: u32, scope: Scope)
     apply_line(plan, &BoardLine::Deny(line));
 }
 
-fn keep_domains(plan: &mut Plan, rows: &[DomainRow])
+fn set_domains(plan: &mut Plan, rows: &[DomainRow])
     requires domains { length rows.now ≡ length plan.old.domains }
     ensures lines { plan.new ≡ with_lines plan.old (lines_from domain_lines 0 rows.now) }
 {
     let _domains = plan.domains();
     let mut domain = 0u32;
     'rows: for row in rows {
-        keep_if(plan, Resource::Domain(domain), row.kept);
+        set_domain(plan, domain, row);
         domain += 1;
     }
 }
 
-fn keep_clocks(plan: &mut Plan, rows: &[ClockRow])
+#[tactic(auto, using(crate::proofs::TableLemmas::both_said))]
+fn set_domain(plan: &mut Plan, domain: u32, row: &DomainRow)
+    requires { domain < length plan.old.domains }
+    ensures { plan.new ≡ with_lines plan.old (domain_lines domain row.now) }
+{
+    let resource = Resource::Domain(domain);
+    say_if(plan, row.kept, BoardLine::Keep(resource));
+    say_if(plan, row.absent, BoardLine::Absent(resource));
+}
+
+fn set_clocks(plan: &mut Plan, rows: &[ClockRow])
     requires clocks { length rows.now ≡ length plan.old.clocks }
     ensures lines { plan.new ≡ with_lines plan.old (lines_from clock_lines 0 rows.now) }
 {
     let _clocks = plan.clocks();
     let mut clock = 0u32;
     'rows: for row in rows {
-        keep_if(plan, Resource::Clock(clock), row.kept);
+        set_clock(plan, clock, row);
         clock += 1;
     }
 }
 
-/// Keeps a domain or clock whose row says so.
-fn keep_if(plan: &mut Plan, resource: Resource, kept: u32)
-    requires resource { IsOnBoard plan.old resource }
-    ensures { plan.new ≡ with_lines plan.old (keep_lines kept resource) }
+#[tactic(auto, using(crate::proofs::TableLemmas::both_said))]
+fn set_clock(plan: &mut Plan, clock: u32, row: &ClockRow)
+    requires { clock < length plan.old.clocks }
+    ensures { plan.new ≡ with_lines plan.old (clock_lines clock row.now) }
 {
-    if kept != 0 {
-        apply_line(plan, &BoardLine::Keep(resource));
+    let resource = Resource::Clock(clock);
+    say_if(plan, row.kept, BoardLine::Keep(resource));
+    say_if(plan, row.absent, BoardLine::Absent(resource));
+    say_if(plan, row.free, BoardLine::Free(clock));
+}
+
+/// Says a line of a plan, if its row says so.
+#[tactic(auto, using(crate::proofs::TableLemmas::rows_of_lines))]
+fn say_if(plan: &mut Plan, flag: u32, line: BoardLine)
+    requires line { IsLineOf plan.old line }
+    ensures lines { plan.new ≡ with_lines plan.old (said_if flag line) }
+    ensures rows { HasRowsOf plan.old plan.new }
+{
+    if flag != 0 {
+        apply_line(plan, &line);
     }
 }
 

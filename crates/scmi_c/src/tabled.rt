@@ -1,42 +1,90 @@
-//! The board of tables that are well formed, written down.
-ghost use Rattle.std.specs.Prelude.{◌≡◌, ◌≤◌, IfOk, length, map, string_bytes, true};
+//! The plan of tables that are well formed.
+ghost use Rattle.std.specs.Prelude.{◌≡◌, ◌≢◌, ◌≤◌, [], IfOk, IfErr, OnOk, None, Some, length, map, true, vec_capacity, vec_len};
 ghost use Rattle.std.specs.List.{All, position, position_or_len};
+ghost use Rattle.scmi_codec.specs.Name.{IsName};
+ghost use Rattle.scmi_plan.specs.PlanError.{first_fault, has_valid_counts};
 ghost use Rattle.scmi_plan.specs.Rates.{rates_of};
-ghost use Rattle.scmi_plan.specs.RawPlan.{asked_board, asked_clock, asked_domain};
+ghost use Rattle.scmi_plan.specs.declared.plan_error.PlanError.TheVariants as error;
 ghost use Rattle.scmi_c.specs.Tables.{board_in, clock_in, device_in, domain_in, is_clock_row, is_domain_row, is_named, is_well_formed, is_zero, name_in, rates_in, tables_of};
 
 use crate::rows::{AgentRow, ClockRow, DeviceRow, DomainRow};
 use crate::tables::Tables;
-use scmi_plan::{Device, Rates, RawClock, RawDomain, RawPlan};
+use scmi_codec::Name;
+use scmi_plan::{BoardRows, Clock, Device, Domain, Plan, PlanError, Rates, are_valid_counts};
 use std::alloc::{AllocError, Global};
 use std::str::from_utf8_unchecked;
 
-/// The board that the tables encode, with whole channels, of which nothing is kept or denied. The
-/// only possible error: out of memory.
-pub fn write_down(alloc: Global, tables: &Tables<'_>) -> Result<RawPlan, AllocError>
+/// The plan of the board that the tables encode, or the first rule that the board breaks; `Memory`
+/// if memory ran out.
+pub fn checked_plan(alloc: Global, tables: &Tables<'_>) -> Result<Plan, PlanError>
     requires formed { is_well_formed (tables_of tables.now) ≡ true }
-    ensures board { IfOk result (λ raw. asked_board raw ≡ board_in (tables_of tables.now)) }
+    ensures board { IfOk result (λ plan. plan ≡ board_in (tables_of tables.now)) }
+    ensures no_fault { OnOk result (first_fault (board_in (tables_of tables.now)) ≡ None) }
+    ensures fault { IfErr result (λ e. e ≢ error.Memory
+        → first_fault (board_in (tables_of tables.now)) ≡ Some e) }
 {
+    Plan::of_rows(board_rows(alloc, tables)?)
+}
+
+/// The rows of the board that the tables encode. The rules of numbers and of names come first, so
+/// that a board that breaks one has no rows; `Memory` if memory ran out.
+#[inline(never)]
+fn board_rows(alloc: Global, tables: &Tables<'_>) -> Result<BoardRows, PlanError>
+    requires formed { is_well_formed (tables_of tables.now) ≡ true }
+    ensures board { IfOk result (λ rows. rows ≡ board_in (tables_of tables.now)) }
+    ensures fault { IfErr result (λ e. e ≢ error.Memory
+        → first_fault (board_in (tables_of tables.now)) ≡ Some e) }
+{
+    if !has_valid_counts(tables) {
+        return Err(PlanError::Count);
+    }
     let heading = tables.heading;
-    Ok(RawPlan {
-        vendor: name_text(alloc, &heading.vendor)?,
-        sub_vendor: name_text(alloc, &heading.sub_vendor)?,
+    let vendor = name_of(&heading.vendor)?;
+    let sub_vendor = name_of(&heading.sub_vendor)?;
+    // All are there before a row is added, so that each error drops them at one place.
+    let mut agents = Vec::with_capacity(alloc, tables.agents.len())?;
+    let mut domains = Vec::with_capacity(alloc, tables.domains.len())?;
+    let mut clocks = Vec::with_capacity(alloc, tables.clocks.len())?;
+    let mut devices = Vec::with_capacity(alloc, tables.devices.len())?;
+    add_agents(&mut agents, tables.agents)?;
+    add_domains(&mut domains, tables.domains)?;
+    add_clocks(alloc, &mut clocks, tables.clocks, tables.rates)?;
+    add_devices(&mut devices, tables.devices);
+    Ok(BoardRows {
+        vendor,
+        sub_vendor,
         version: heading.version,
         trusted: heading.trusted,
-        agents: agent_names(alloc, tables.agents)?,
-        domains: raw_domains(alloc, tables.domains)?,
-        clocks: raw_clocks(alloc, tables.clocks, tables.rates)?,
-        devices: devices(alloc, tables.devices)?,
+        agents,
+        domains,
+        clocks,
+        devices,
     })
 }
 
-/// A name, up to its zero.
-fn name_text(alloc: Global, name: &[u8]) -> Result<String, AllocError>
+fn has_valid_counts(tables: &Tables<'_>) -> bool
+    ensures { result ≡ has_valid_counts (board_in (tables_of tables.now)) }
+{
+    are_valid_counts(
+        tables.agents.len(),
+        tables.domains.len(),
+        tables.clocks.len(),
+        tables.devices.len(),
+    )
+}
+
+/// A name, up to its zero; `Name` if a board may not have it.
+fn name_of(name: &[u8]) -> Result<Name, PlanError>
     requires named { is_named name.now ≡ true }
-    ensures { IfOk result (λ text. string_bytes text ≡ name_in name.now) }
+    ensures name { IfOk result (λ n. n ≡ name_in name.now) }
+    ensures valid { OnOk result (IsName (name_in name.now)) }
+    ensures fault { IfErr result (λ e. (e ≡ error.Name) × (¬ (IsName (name_in name.now)))) }
 {
     let text = unsafe { from_utf8_unchecked(&name[..name_length(name)]) };
-    String::from_str(alloc, text)
+    match Name::new(text) {
+        Some(name) => Ok(name),
+        None => Err(PlanError::Name),
+    }
 }
 
 /// How many bytes a name has before its zero.
@@ -53,64 +101,68 @@ fn zero_place(name: &[u8]) -> Option<usize>
     name.iter().position(|byte| *byte == 0)
 }
 
-fn agent_names(alloc: Global, rows: &[AgentRow]) -> Result<Vec<String>, AllocError>
+/// Adds agents to none, for all of which there is room.
+fn add_agents(agents: &mut Vec<Name>, rows: &[AgentRow]) -> Result<(), PlanError>
     requires rows { All (λ row. is_named row.name ≡ true) rows.now }
-    ensures { IfOk result (λ names.
-        map string_bytes names.items ≡ map (λ row. name_in row.name) rows.now) }
+    requires none { (agents.old.items ≡ []) × (vec_len agents.old ≡ 0) }
+    requires room { length rows.now ≤ vec_capacity agents.old }
+    ensures agents { OnOk result (agents.new.items ≡ map (λ row. name_in row.name) rows.now) }
+    ensures valid { OnOk result (All (λ row. IsName (name_in row.name)) rows.now) }
+    ensures fault { IfErr result (λ e. (e ≡ error.Name)
+        × (¬ (All (λ row. IsName (name_in row.name)) rows.now))) }
 {
-    let mut names = Vec::with_capacity(alloc, rows.len())?;
     for row in rows {
-        names.push(name_text(alloc, &row.name)?)?;
+        agents.push_reserved(name_of(&row.name)?);
     }
-    Ok(names)
+    Ok(())
 }
 
-fn raw_domains(alloc: Global, rows: &[DomainRow]) -> Result<Vec<RawDomain>, AllocError>
+/// Adds domains to none, for all of which there is room.
+fn add_domains(domains: &mut Vec<Domain>, rows: &[DomainRow]) -> Result<(), PlanError>
     requires rows { All (λ row. is_domain_row row ≡ true) rows.now }
-    ensures { IfOk result (λ domains. map asked_domain domains.items ≡ map domain_in rows.now) }
+    requires none { (domains.old.items ≡ []) × (vec_len domains.old ≡ 0) }
+    requires room { length rows.now ≤ vec_capacity domains.old }
+    ensures domains { OnOk result (domains.new.items ≡ map domain_in rows.now) }
+    ensures valid { OnOk result (All (λ row. IsName (name_in row.name)) rows.now) }
+    ensures fault { IfErr result (λ e. (e ≡ error.Name)
+        × (¬ (All (λ row. IsName (name_in row.name)) rows.now))) }
 {
-    let mut domains = Vec::with_capacity(alloc, rows.len())?;
     for row in rows {
-        domains.push(raw_domain(alloc, row)?)?;
+        domains.push_reserved(Domain {
+            name: name_of(&row.name)?,
+            on: row.on != 0,
+            synchronous: row.synchronous != 0,
+            asynchronous: row.asynchronous != 0,
+            notify: row.notify != 0,
+        });
     }
-    Ok(domains)
+    Ok(())
 }
 
-fn raw_domain(alloc: Global, row: &DomainRow) -> Result<RawDomain, AllocError>
-    requires row { is_domain_row row.now ≡ true }
-    ensures { IfOk result (λ domain. asked_domain domain ≡ domain_in row.now) }
-{
-    Ok(RawDomain {
-        name: name_text(alloc, &row.name)?,
-        on: row.on != 0,
-        synchronous: row.synchronous != 0,
-        asynchronous: row.asynchronous != 0,
-        notify: row.notify != 0,
-    })
-}
-
-fn raw_clocks(alloc: Global, rows: &[ClockRow], rates: &[u64]) -> Result<Vec<RawClock>, AllocError>
+/// Adds clocks to none, for all of which there is room; `Memory` if there is none for their rates.
+fn add_clocks(
+    alloc: Global,
+    clocks: &mut Vec<Clock>,
+    rows: &[ClockRow],
+    rates: &[u64],
+) -> Result<(), PlanError>
     requires rows { All (λ row. is_clock_row (length rates.now) row ≡ true) rows.now }
-    ensures { IfOk result (λ clocks.
-        map asked_clock clocks.items ≡ map (clock_in rates.now) rows.now) }
+    requires none { (clocks.old.items ≡ []) × (vec_len clocks.old ≡ 0) }
+    requires room { length rows.now ≤ vec_capacity clocks.old }
+    ensures clocks { OnOk result (clocks.new.items ≡ map (clock_in rates.now) rows.now) }
+    ensures valid { OnOk result (All (λ row. IsName (name_in row.name)) rows.now) }
+    ensures fault { IfErr result (λ e. e ≢ error.Memory → (e ≡ error.Name)
+        × (¬ (All (λ row. IsName (name_in row.name)) rows.now))) }
 {
-    let mut clocks = Vec::with_capacity(alloc, rows.len())?;
     for row in rows {
-        clocks.push(raw_clock(alloc, row, rates)?)?;
+        clocks.push_reserved(Clock {
+            name: name_of(&row.name)?,
+            enabled: row.enabled != 0,
+            rate: row.rate,
+            rates: clock_rates(alloc, row, rates)?,
+        });
     }
-    Ok(clocks)
-}
-
-fn raw_clock(alloc: Global, row: &ClockRow, rates: &[u64]) -> Result<RawClock, AllocError>
-    requires row { is_clock_row (length rates.now) row.now ≡ true }
-    ensures { IfOk result (λ clock. asked_clock clock ≡ clock_in rates.now row.now) }
-{
-    Ok(RawClock {
-        name: name_text(alloc, &row.name)?,
-        enabled: row.enabled != 0,
-        rate: row.rate,
-        rates: clock_rates(alloc, row, rates)?,
-    })
+    Ok(())
 }
 
 fn clock_rates(alloc: Global, row: &ClockRow, rates: &[u64]) -> Result<Rates, AllocError>
@@ -129,15 +181,16 @@ fn clock_rates(alloc: Global, row: &ClockRow, rates: &[u64]) -> Result<Rates, Al
     Ok(Rates::List(list))
 }
 
-fn devices(alloc: Global, rows: &[DeviceRow]) -> Result<Vec<Device>, AllocError>
-    ensures { IfOk result (λ devices. devices.items ≡ map device_in rows.now) }
+/// Adds devices to none, for all of which there is room.
+fn add_devices(devices: &mut Vec<Device>, rows: &[DeviceRow])
+    requires none { (devices.old.items ≡ []) × (vec_len devices.old ≡ 0) }
+    requires room { length rows.now ≤ vec_capacity devices.old }
+    ensures devices { devices.new.items ≡ map device_in rows.now }
 {
-    let mut devices = Vec::with_capacity(alloc, rows.len())?;
     for row in rows {
-        devices.push(Device {
+        devices.push_reserved(Device {
             domains: row.domains,
             clocks: row.clocks,
-        })?;
+        });
     }
-    Ok(devices)
 }

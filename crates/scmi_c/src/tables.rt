@@ -96,6 +96,8 @@ fn is_mask_of(devices: usize, mask: u32) -> bool
 }
 
 /// Whether a name is ended by a zero, has bytes of ASCII alone, and zeros behind the first.
+// It is called at five places.
+#[inline(never)]
 fn is_named(name: &[u8]) -> bool
     ensures { result ≡ is_named name.now }
 {

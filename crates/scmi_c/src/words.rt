@@ -15,7 +15,7 @@ ghost use Rattle.scmi_c.specs.Words.{FitsWords, HasAnsweredWords, LacksWords, co
 use crate::desk::Exchange;
 use crate::held::Held;
 use crate::refusal::Refusal;
-use scmi_codec::{Frame, Header, Message, PAYLOAD_WORDS, channel_bytes, payload_of, resize};
+use scmi_codec::{Frame, Header, Message, PAYLOAD_WORDS, channel_bytes, resize};
 use scmi_core::Effect;
 
 impl Held {
@@ -134,27 +134,14 @@ fn read_words(message: &[u32], frame: &mut Frame)
     requires few { length message.now ≤ 1 + PAYLOAD_WORDS }
     ensures { frame.new ≡ frame_in message.now }
 {
+    if let Frame::Malformed { .. } = frame {
+        frame.set_empty();
+    }
     if let Frame::Good(own) = frame {
         own.header = Header::unpack(message[0]);
         resize(&mut own.payload, message.len() - 1);
         copy_words(own.payload.as_mut_slice(), &message[1..]);
-    } else {
-        read_anew(message, frame);
     }
-}
-
-/// As `read_words`, into a frame that holds no message. What it makes is not among the locals of
-/// its callers.
-#[inline(never)]
-fn read_anew(message: &[u32], frame: &mut Frame)
-    requires some { 1 ≤ length message.now }
-    requires few { length message.now ≤ 1 + PAYLOAD_WORDS }
-    ensures { frame.new ≡ frame_in message.now }
-{
-    *frame = Frame::Good(Message {
-        header: Header::unpack(message[0]),
-        payload: payload_of(&message[1..]),
-    });
 }
 
 /// Writes a message over the first of these words, and gives how many it has.
@@ -186,30 +173,31 @@ fn put_words(words: &mut [u32], header: u32, payload: &[u32]) -> u32
 }
 
 /// Writes words over as many others. Commands have four at most and most replies three, which take
-/// no loop.
+/// no loop, and no table of jumps.
 fn copy_words(to: &mut [u32], from: &[u32])
     requires { length to.old ≡ length from.now }
     ensures { to.new ≡ from.now }
 {
-    match from.len() {
-        0 => {}
-        1 => to[0] = from[0],
-        2 => {
-            to[0] = from[0];
-            to[1] = from[1];
+    let count = from.len();
+    if count > 2 {
+        if count > 4 {
+            copy_many(to, from);
+            return;
         }
-        3 => {
-            to[0] = from[0];
-            to[1] = from[1];
-            to[2] = from[2];
-        }
-        4 => {
-            to[0] = from[0];
-            to[1] = from[1];
-            to[2] = from[2];
+        to[0] = from[0];
+        to[1] = from[1];
+        to[2] = from[2];
+        if count == 4 {
             to[3] = from[3];
         }
-        _ => copy_many(to, from),
+        return;
+    }
+    if count == 0 {
+        return;
+    }
+    to[0] = from[0];
+    if count == 2 {
+        to[1] = from[1];
     }
 }
 

@@ -16,7 +16,7 @@ message_of_call call = record { header = protocol_header call.protocol 0 call.me
 -- the message that a step posts, its token aside
 abbrev pub message_of : Step → Option Message
 message_of (step.Do a call) = Some (message_of_call call)
-message_of (step.Fail a call) = Some (message_of_call call)
+message_of (step.Fail a fault call) = Some (message_of_call call)
 message_of (step.Agent a (agent_step.Call call)) = Some (message_of_call call)
 message_of (step.Agent a (agent_step.Raw message)) = Some message
 message_of _ = None

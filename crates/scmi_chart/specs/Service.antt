@@ -46,7 +46,7 @@ if_got a _ = None
 abbrev pub served_by : Step → StepLine → Option ℕ
 served_by s (line.Served a served) = if_done (lane a) served
 served_by (step.Do b call) (line.Collected a c) = if_got (lane a) c
-served_by (step.Fail b call) (line.Collected a c) = if_got (lane a) c
+served_by (step.Fail b fault call) (line.Collected a c) = if_got (lane a) c
 served_by s l = None
 
 -- whether it is this lifeline
@@ -89,7 +89,7 @@ abbrev pub laters_after : List Bool → Step → StepLine → List Bool
 laters_after laters s (line.Token a token) = set laters (lane a) (sets_later s)
 laters_after laters s (line.Posted a) = set laters (lane a) (sets_later s)
 laters_after laters (step.Do b call) (line.Collected a c) = set laters (lane a) (sets_later (step.Do b call))
-laters_after laters (step.Fail b call) (line.Collected a c) = set laters (lane a) (sets_later (step.Fail b call))
+laters_after laters (step.Fail b fault call) (line.Collected a c) = set laters (lane a) (sets_later (step.Fail b fault call))
 laters_after laters s l = laters
 
 -- the same of the agent that the line names

@@ -2,8 +2,9 @@
 use Rattle.std.specs.Prelude.{ℕ, Bool, true, false, ◌==◌, if◌then◌else◌, List, [], ◌∷◌, ◌++◌, Option, Some, None, min, Result, Ok, Err}
 use Rattle.scmi_codec.specs.Header.{HeaderFields}
 use Rattle.scmi_codec.specs.Payload.{begins_with_success}
+use Rattle.scmi_codec.specs.Fault.{fault_status}
 use Rattle.scmi_codec.specs.Status.{status_word}
-use Rattle.scmi_codec.specs.declared.status.Status.TheVariants.{HardwareError}
+use Rattle.scmi_codec.specs.declared.fault.Fault.{Fault}
 use Rattle.scmi_codec.specs.declared.frame.Answer.{Answer}
 use Rattle.scmi_codec.specs.declared.frame.Answer.TheVariants.{Reply}
 use Rattle.scmi_codec.specs.declared.frame.Frame.{Frame}
@@ -31,7 +32,7 @@ use Rattle.scmi_svg.specs.declared.mark.Side.TheVariants as side
 use Rattle.scmi_svg.specs.declared.mark.Message.{Message as Arrow}
 use Rattle.scmi_chart.specs.Detail.{answer_detail, message_detail, step_detail}
 
--- what a mark shows, with the header and the words of its message in hexadecimal: whether a command that an agent posted was executed, with its token if it has one; a post was refused; the platform executed a command; the outcome of the answer to its command that an agent read; an agent took a delayed response or a notification; the platform posted a message; it was to complete a pending set, and whether there was one; it ended one whose change the hardware refused; the hardware refused what an agent's command was to change; channels were closed; an agent restarted; or a step of an agent's came to nothing
+-- what a mark shows, with the header and the words of its message in hexadecimal: whether a command that an agent posted was executed, with its token if it has one; a post was refused; the platform executed a command; the outcome of the answer to its command that an agent read; an agent took a delayed response or a notification; the platform posted a message; it was to complete a pending set, and whether there was one; it ended one whose change the hardware refused; an agent's command was answered with the status with which the hardware beside it refuses; channels were closed; an agent restarted; a step of an agent's came to nothing; or, of number 0, the hardware reported a change, which the platform took over
 pub data Sign : Type 0 where
   sent : Bool → ℕ → Option ℕ → List ℕ → Sign
   unsent : ℕ → List ℕ → Sign
@@ -91,15 +92,15 @@ is_success _ = false
 abbrev pub outcome_of : Answer → Bool → Outcome
 outcome_of answer later = if is_success answer then (if later then outcome.Pending else outcome.Success) else outcome.Refusal
 
--- whether words are the payload of a reply with the status HARDWARE_ERROR
-abbrev pub begins_with_hardware_error : List ℕ → Bool
-begins_with_hardware_error [] = false
-begins_with_hardware_error (status ∷ words) = status == status_word HardwareError
+-- whether words are the payload of a reply with the status of this fault
+abbrev pub begins_with_fault : Fault → List ℕ → Bool
+begins_with_fault fault [] = false
+begins_with_fault fault (status ∷ words) = status == status_word (fault_status fault)
 
--- whether what was collected is a reply with the status HARDWARE_ERROR
-abbrev pub is_hardware_error : Collected → Bool
-is_hardware_error (collected.Got (Reply m)) = begins_with_hardware_error m.payload.items
-is_hardware_error _ = false
+-- whether what was collected is a reply with the status of this fault
+abbrev pub has_fault : Fault → Collected → Bool
+has_fault fault (collected.Got (Reply m)) = begins_with_fault fault m.payload.items
+has_fault fault _ = false
 
 -- what is shown of an agent that read an answer with this outcome
 abbrev pub answered_sign : ℕ → Answer → Outcome → Sign
@@ -120,14 +121,19 @@ abbrev pub exchange_signs : Bool → Step → ℕ → Collected → List Sign
 exchange_signs x s a (collected.Got answer) = sent_sign x s a (reply_token (collected.Got answer)) ∷ executed ∷ []
 exchange_signs x s a c = sent_sign x s a (reply_token c) ∷ []
 
--- what is shown of hardware that refused, before an agent collected in the same step
-abbrev pub fault_signs : ℕ → Collected → List Sign
-fault_signs a c = if is_hardware_error c then faulted a ∷ [] else []
+-- what is shown of hardware that refuses with this fault, before an agent collected in the same step
+abbrev pub fault_signs : Fault → ℕ → Collected → List Sign
+fault_signs fault a c = if has_fault fault c then faulted a ∷ [] else []
 
 -- what is shown of a pending set that was to end, whose change the hardware refused
 abbrev pub failed_signs : Bool → List Sign
 failed_signs true = failed ∷ []
 failed_signs false = advanced false ∷ []
+
+-- what is shown of a change that the hardware reported, by whether the platform took it over
+abbrev pub reported_signs : Bool → List Sign
+reported_signs true = remarked 0 ∷ []
+reported_signs false = []
 
 -- what is shown of an agent that took a message with this header, which reports this
 abbrev pub posted_sign : ℕ → HeaderFields → List ℕ → Sign
@@ -158,7 +164,7 @@ abbrev pub shut_signs : {T : Type 0} → ℕ → Result T ShutError → List Sig
 shut_signs a (Ok u) = closed a side.Platform ∷ []
 shut_signs a (Err refusal) = remarked a ∷ []
 
--- what is shown of a step that came to this line: each command that was posted, and whether it is executed, in this step or later; each post that was refused, each execution, answer and message, each message that was posted, each advance, each refusal of the hardware, each restart and each close, by its agent, once, in the words of its message; and what came to nothing. A set of the agent's last command may be one that takes effect later
+-- what is shown of a step that came to this line: each command that was posted, and whether it is executed, in this step or later; each post that was refused, each execution, answer and message, each message that was posted, each advance, each refusal and each report of the hardware, each restart and each close, by its agent, once, in the words of its message; and what came to nothing. A set of the agent's last command may be one that takes effect later
 abbrev pub signs_of : Bool → Bool → Step → StepLine → List Sign
 signs_of x later s (line.Token a token) = sent_sign x s (lane a) (Some token) ∷ []
 signs_of x later s (line.Posted a) = sent_sign x s (lane a) (raw_token s) ∷ []
@@ -166,11 +172,12 @@ signs_of x later s (line.NotPosted a refusal) = unsent (lane a) (step_detail s N
 signs_of x later s (line.Served a served) = served_signs (lane a) served
 signs_of x later (step.Do b call) (line.Collected a c) =
     exchange_signs x (step.Do b call) (lane a) c ++ collected_signs (lane a) later c
-signs_of x later (step.Fail b call) (line.Collected a c) =
-    exchange_signs x (step.Fail b call) (lane a) c ++ fault_signs (lane a) c ++ collected_signs (lane a) later c
+signs_of x later (step.Fail b fault call) (line.Collected a c) =
+    exchange_signs x (step.Fail b fault call) (lane a) c ++ fault_signs fault (lane a) c ++ collected_signs (lane a) later c
 signs_of x later s (line.Collected a c) = collected_signs (lane a) later c
 signs_of x later s (line.Advanced more) = advanced more ∷ []
 signs_of x later s (line.AdvanceFailed more) = failed_signs more
+signs_of x later s (line.Reported taken) = reported_signs taken
 signs_of x later s (line.Flushed a flushed) = flushed_signs (lane a) flushed
 signs_of x later s (line.P2a a frame) = taken_signs (lane a) frame
 signs_of x later s (line.Closed a closing) = closed_signs (lane a) closing

@@ -5,11 +5,12 @@ ghost use Rattle.scmi_chart.specs.Service.{if_got, sets_later};
 ghost use Rattle.scmi_chart.specs.Shown.{adds, exchanged, serves, with_later};
 
 use crate::recorder::Recorder;
-use crate::sign::{is_hardware_error, reply_token};
+use crate::sign::{has_fault, reply_token};
+use scmi_codec::Fault;
 use scmi_link::Collected;
 use scmi_svg::Mark;
 use scmi_text::Step;
-use std::alloc::AllocError;
+use std::alloc::{AllocError, Global};
 
 impl<'a> Recorder<'a> {
     /// A command was posted, served and collected, in this order.
@@ -26,19 +27,21 @@ impl<'a> Recorder<'a> {
         self.record_collect(agent, slot.saturating_add(1), collected)
     }
 
-    /// A command was posted, served beside hardware that refuses, and collected, in this order.
+    /// A command was posted, served beside hardware that refuses with this fault, and collected, in
+    /// this order.
     pub(crate) fn record_refused(
         &mut self,
         agent: u8,
         slot: u16,
+        fault: Fault,
         step: &Step,
         collected: &Collected,
     ) -> Result<(), AllocError>
         ensures { OnOk result (self.new ≡ exchanged step.now agent collected.now
-            (fault_signs agent collected.now) self.old) }
+            (fault_signs fault agent collected.now) self.old) }
     {
         self.record_service(agent, slot, step, collected)?;
-        self.record_fault(agent, slot, collected)?;
+        self.record_fault(agent, slot, fault, collected)?;
         self.record_collect(agent, slot.saturating_add(1), collected)
     }
 
@@ -79,19 +82,33 @@ impl<'a> Recorder<'a> {
         self.marks.add(Mark::Execution { slot, until })
     }
 
-    /// The hardware refused what the agent's command was to change, if the reply reports that.
+    /// The hardware refuses with this fault, if the reply has its status.
     pub(crate) fn record_fault(
         &mut self,
         agent: u8,
         slot: u16,
+        fault: Fault,
         collected: &Collected,
     ) -> Result<(), AllocError>
-        ensures { OnOk result (self.new ≡ adds (fault_signs agent collected.now) self.old) }
+        ensures { OnOk result (self.new ≡ adds (fault_signs fault agent collected.now) self.old) }
     {
-        if !is_hardware_error(collected) {
+        if !has_fault(fault, collected) {
             return Ok(());
         }
-        let text = Vec::from_slice(self.alloc, b"hardware refused")?;
+        let text = fault_words(self.alloc, fault)?;
         self.marks.add(Mark::Fault { agent, slot, text })
+    }
+}
+
+/// How the hardware refuses. Only HARDWARE_ERROR is never the platform's own status.
+fn fault_words(alloc: Global, fault: Fault) -> Result<Vec<u8>, AllocError> {
+    match fault {
+        Fault::HardwareError => Vec::from_slice(alloc, b"hardware refused"),
+        _ => {
+            let mut words = Vec::from_slice(alloc, b"hardware refuses: ")?;
+            let status = fault.status();
+            words.extend_from_slice(status.name().as_bytes())?;
+            Ok(words)
+        }
     }
 }

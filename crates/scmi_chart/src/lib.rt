@@ -33,6 +33,7 @@ mod posts;
 mod recorder;
 mod remark_marks;
 mod reply_label;
+mod report_marks;
 mod restart_marks;
 mod sign;
 mod subject;

@@ -133,11 +133,14 @@ impl<'a> Recorder<'a> {
             StepLine::Served { agent, served } => self.record_serve(lane(*agent), slot, *served),
             StepLine::Collected { agent, collected } => match step {
                 Step::Do { .. } => self.record_exchange(lane(*agent), slot, step, collected),
-                Step::Fail { .. } => self.record_refused(lane(*agent), slot, step, collected),
+                Step::Fail { fault, .. } => {
+                    self.record_refused(lane(*agent), slot, *fault, step, collected)
+                }
                 _ => self.record_collect(lane(*agent), slot, collected),
             },
             StepLine::Advanced { more } => self.record_advance(slot, *more),
             StepLine::AdvanceFailed { more } => self.record_failure(slot, *more),
+            StepLine::Reported { taken } => self.record_report(slot, step, *taken),
             StepLine::Flushed { agent, flushed } => self.record_flush(lane(*agent), slot, *flushed),
             StepLine::P2a { agent, frame } => self.record_take(lane(*agent), slot, frame),
             StepLine::Closed { agent, closing } => self.record_close(lane(*agent), slot, closing),

@@ -1,9 +1,9 @@
 //! What a step and its result determine of a mark: its lane, token, outcome and words.
 ghost use Rattle.std.specs.Prelude.{◌≡◌, if◌then◌else◌};
 ghost use Rattle.scmi_svg.specs.declared.mark.Outcome.TheVariants as Outcome;
-ghost use Rattle.scmi_chart.specs.Signs.{detail_of, sign_of, lane, raw_token, reply_token, is_hardware_error, outcome_of, posted_sign, sent};
+ghost use Rattle.scmi_chart.specs.Signs.{detail_of, sign_of, lane, raw_token, reply_token, has_fault, outcome_of, posted_sign, sent};
 
-use scmi_codec::{Answer, Header, Status, is_success};
+use scmi_codec::{Answer, Fault, Header, is_success};
 use scmi_link::Collected;
 use scmi_svg::{Mark, Message, Outcome};
 use scmi_text::{AgentStep, Step};
@@ -38,13 +38,14 @@ pub(crate) fn reply_token(collected: &Collected) -> Option<u16>
     }
 }
 
-/// Whether a reply with the status HARDWARE_ERROR was collected.
-pub(crate) fn is_hardware_error(collected: &Collected) -> bool
-    ensures { result ≡ is_hardware_error collected.now }
+/// Whether a reply with the status of this fault was collected.
+pub(crate) fn has_fault(fault: Fault, collected: &Collected) -> bool
+    ensures { result ≡ has_fault fault collected.now }
 {
+    let refusal = fault.status();
     match collected {
         Collected::Got(Answer::Reply(message)) => match message.payload.as_slice() {
-            [status, ..] => *status == Status::HardwareError.word(),
+            [status, ..] => *status == refusal.word(),
             [] => false,
         },
         _ => false,

@@ -30,7 +30,7 @@ front-behind : (may : Unseen) (board : Board) {entry : Entry} {entries : List En
     → HasLegalHistory may board entries
 front-behind may board (Behind.unseen {moves = before} behind move unseen) legal = front-behind may board behind (legal-before board before move legal)
 front-behind may board (Behind.shown {entries = shown} {moves = before} behind entry after fits) legal =
-    (before, legal-front board shown before after entry fits legal, behind)
+    (before, legal-front may board shown before after entry fits legal, behind)
 
 front-right : (may : Unseen) (board : Board) (entry : Entry) (entries : List Entry) → HasLegalHistory may board (entry ∷ entries) → HasLegalHistory may board entries
 front-right may board entry entries has = front-behind may board has.2 has.1

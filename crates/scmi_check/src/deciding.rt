@@ -2,7 +2,7 @@
 use crate::check_row::{CHECKS, CheckRow, LENGTH, When};
 use crate::judged::Judged;
 use crate::own_test::{begins_with, has_reserved_flags};
-use scmi_codec::{Answer, Command, Frame, Header, Message, is_listed, wanted_words};
+use scmi_codec::{Answer, Command, Fault, Frame, Header, Message, is_listed, wanted_words};
 use scmi_core::failed_response;
 use scmi_judge::{Entry, Refusals, Verdict};
 
@@ -34,9 +34,14 @@ pub(crate) fn deciding_word(one: &Judged, refusals: Refusals) -> Option<&'static
 /// The word of a message that differs, if it says that the hardware refused a change.
 fn hardware_word(message: &Message, refusals: Refusals) -> Option<&'static str> {
     match refusals {
-        Refusals::None if failed_response(message.header) == *message => Some(HARDWARE),
+        Refusals::None if is_refusal(message) => Some(HARDWARE),
         _ => None,
     }
+}
+
+/// Whether a message is the delayed response to a change that the hardware refused.
+fn is_refusal(message: &Message) -> bool {
+    failed_response(message.header, Fault::HardwareError) == *message
 }
 
 /// The word of the first check of a command by which this payload is due.

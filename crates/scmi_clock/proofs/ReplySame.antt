@@ -1,6 +1,6 @@
 -- Views that agree on the board's clocks give the same replies.
 use Rattle.std.proofs.Common.{◌≡◌, ◌⊎◌, inl, inr, ℕ, ◌<◌, true, false, length, refl}
-use Rattle.std.proofs.lemmas.Bool.{leb-false, cases_Bool}
+use Rattle.std.proofs.lemmas.Bool.{leb-false, cases_Bool, or_parts}
 use Rattle.scmi_codec.specs.declared.clock_command.ClockCommand.{ClockCommand}
 use Rattle.scmi_codec.specs.declared.clock_command.ClockCommand.TheVariants as clock
 use Rattle.scmi_plan.specs.Board.{Board}
@@ -15,7 +15,7 @@ pub record SameView (board : Board) (v w : ClockView) : Type 0 where
   pub channel : v.channel ≡ w.channel
 
 known : (board : Board) (d : ℕ) → no_clock board d ≡ false → d < length board.clocks
-known board d h = leb-false (length board.clocks) d h
+known board d h = leb-false (length board.clocks) d (or_parts _ _ h).0
 
 pub clock_reply-same : (board : Board) (v w : ClockView) → SameView board v w → (c : ClockCommand) → clock_reply board v c ≡ clock_reply board w c
 unfolding clock_reply

@@ -1,11 +1,11 @@
 -- The replies of the clock protocol (DEN0056B, clock management protocol), 0x14.
-use Rattle.std.specs.Prelude.{ℕ, ◌+◌, ◌-◌, ◌*◌, ◌/◌, ◌^◌, ◌&&◌, ◌||◌, Bool, false, not, nat_le, min, if◌then◌else◌, List, [], ◌∷◌, length, take, drop, Option, is_none}
+use Rattle.std.specs.Prelude.{ℕ, ◌+◌, ◌-◌, ◌*◌, ◌/◌, ◌^◌, ◌&&◌, ◌||◌, Bool, true, false, not, nat_le, min, if◌then◌else◌, List, [], ◌∷◌, length, take, drop, Option, Some, is_none}
 use Rattle.std.specs.List.{flat_map}
 use Rattle.scmi_codec.specs.Listing.{is_listed}
 use Rattle.scmi_codec.specs.declared.clock_command.ClockCommand.{ClockCommand}
 use Rattle.scmi_codec.specs.declared.clock_command.ClockCommand.TheVariants as clock
 use Rattle.scmi_codec.specs.declared.status.Status.TheVariants.{NotFound, InvalidParameters, NotSupported, OutOfRange, Denied, Busy}
-use Rattle.scmi_plan.specs.Board.{Board, clock_at, is_kept}
+use Rattle.scmi_plan.specs.Board.{Board, clock_at, is_absent, is_free, is_kept}
 use Rattle.scmi_plan.specs.declared.agent_channel.AgentChannel.{AgentChannel}
 use Rattle.scmi_plan.specs.declared.resource.Resource.TheVariants as resource
 use Rattle.scmi_plan.specs.Rates.{SupportedRates}
@@ -27,13 +27,22 @@ pub record ClockView : Type 0 where
   pub room : Bool
   pub channel : AgentChannel
 
--- the board has no such clock; they are numbered from 0
+-- the board has no such clock, or it is not there; they are numbered from 0
 abbrev pub no_clock : Board → ℕ → Bool
-no_clock board c = nat_le (length board.clocks) c
+no_clock board c = nat_le (length board.clocks) c || is_absent board (resource.Clock c)
 
 -- the supported rate that a set's flags ask for, if there is one
 abbrev pub rounded_rate : SupportedRates → ℕ → ℕ → Option ℕ
 rounded_rate rates flags asked = round_to (rounding_of flags) rates asked
+
+-- the rate that is asked for, where the clock is free, else the rounded one
+abbrev pub rate_if : (free : Bool) → (asked : ℕ) → (rounded : Option ℕ) → Option ℕ
+rate_if true asked rounded = Some asked
+rate_if false asked rounded = rounded
+
+-- the rate that a set's flags ask for, if there is one: of a free clock the rate that is asked for, whatever it is (own)
+abbrev pub rate_for : Board → (c flags asked : ℕ) → Option ℕ
+rate_for board c flags asked = rate_if (is_free board c) asked (rounded_rate (clock_at board c).rates flags asked)
 
 -- the index is past the end of a list of rates; a triplet is described whatever the index (own)
 abbrev pub past_end : SupportedRates → ℕ → Bool
@@ -89,7 +98,7 @@ describe_reply board channel c index =
 abbrev pub set_checks : Board → AgentChannel → Bool → Bool → Bool → ℕ → ℕ → ℕ → List Check
 set_checks board channel may busy room flags c rate =
     (no_clock board c, NotFound)
-    ∷ (has_unknown_flags flags || is_none (rounded_rate (clock_at board c).rates flags rate), InvalidParameters)
+    ∷ (has_unknown_flags flags || is_none (rate_for board c flags rate), InvalidParameters)
     ∷ (channel.one_way && is_asynchronous flags, NotSupported)
     ∷ (not may, Denied)
     ∷ (busy || (is_asynchronous flags && not room), Busy)

@@ -3,13 +3,13 @@ use Rattle.std.specs.Prelude.{◌≡◌, ℕ, ◌<◌, ◌==◌, ◌&&◌, not, 
 use Rattle.std.specs.Int.{bit_at}
 use Rattle.scmi_codec.specs.declared.clock_command.ClockCommand.{ClockCommand}
 use Rattle.scmi_codec.specs.declared.clock_command.ClockCommand.TheVariants as clock
-use Rattle.scmi_plan.specs.Board.{Board, channel_of, clock_at}
+use Rattle.scmi_plan.specs.Board.{Board, channel_of}
 use Rattle.scmi_codec.specs.Reply.{bit_0, reply_unless}
 use Rattle.scmi_plan.specs.declared.limits.TheConstants.{CLOCKS}
 use Rattle.scmi_plan.specs.declared.load.Load.{Load}
 use Rattle.scmi_plan.specs.declared.resource.Resource.TheVariants as resource
 use Rattle.scmi_base.specs.Permission.{Permissions, may, is_allowed}
-use Rattle.scmi_clock.specs.ClockReply.{ClockView, clock_reply, rounded_rate, set_checks, config_checks, disables_kept}
+use Rattle.scmi_clock.specs.ClockReply.{ClockView, clock_reply, rate_for, set_checks, config_checks, disables_kept}
 use Rattle.scmi_clock.specs.SetFlags.{is_asynchronous, is_response_wanted}
 
 -- the rate of each clock in Hz, and whether it is enabled
@@ -54,9 +54,9 @@ view_of board permissions table load caller =
 abbrev pub reply_to : Board → Permissions → ClockTables → Load → ℕ → ClockCommand → List ℕ
 reply_to board permissions table load caller command = clock_reply board (view_of board permissions table load caller) command
 
--- the supported rate that a set asks for
+-- the rate that a set gives a clock: a supported one, or of a free clock the one that is asked for
 abbrev pub set_rate : Board → ℕ → ℕ → ℕ → ℕ
-set_rate board flags c rate = unwrap_or (rounded_rate (clock_at board c).rates flags rate) 0
+set_rate board flags c rate = unwrap_or (rate_for board c flags rate) 0
 
 -- the clock and rate that a successful command sets at once
 abbrev pub rate_now : Board → ClockCommand → Option (ℕ × ℕ)

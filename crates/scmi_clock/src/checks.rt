@@ -1,13 +1,13 @@
 //! The checks of commands, in the order of the profile (own).
-ghost use Rattle.std.specs.Prelude.{◌≡◌, ◌<◌, ◌&&◌, ◌||◌, not, true, false, if◌then◌else◌, length, is_none, Some, Ok, Err, IfOk, IfErr, OnOk};
+ghost use Rattle.std.specs.Prelude.{◌≡◌, ◌<◌, ◌&&◌, ◌||◌, not, true, false, if◌then◌else◌, length, is_none, Some, Ok, Err, IfOk, IfErr, OnOk, OnErr};
 ghost use Rattle.scmi_codec.specs.Reply.{bit_0, AreDecided};
 ghost use Rattle.scmi_codec.specs.declared.status.Status.TheVariants.{NotFound, InvalidParameters, NotSupported, Denied, Busy, OutOfRange};
 ghost use Rattle.scmi_plan.specs.Agent.{IsAgent};
 ghost use Rattle.scmi_plan.specs.Board.{channel_of, is_kept};
 ghost use Rattle.scmi_plan.specs.declared.resource.Resource.TheVariants as resource;
-ghost use Rattle.scmi_plan.specs.Rates.{HasValidRates, rates_of};
+ghost use Rattle.scmi_plan.specs.Rates.{rates_of};
 ghost use Rattle.scmi_plan.specs.declared.limits.TheConstants.{CLOCKS};
-ghost use Rattle.scmi_clock.specs.ClockReply.{no_clock, past_end, rounded_rate};
+ghost use Rattle.scmi_clock.specs.ClockReply.{no_clock, past_end, rate_for};
 ghost use Rattle.scmi_clock.specs.ClockTable.{set_rate, may_change, is_pending, set_words, config_words};
 ghost use Rattle.scmi_clock.specs.SetFlags.{has_unknown_flags, is_asynchronous, is_response_wanted};
 
@@ -17,8 +17,8 @@ use scmi_base::BaseState;
 use scmi_codec::{Status, single_flag};
 use scmi_plan::{Load, Plan, Rates, Resource};
 
-/// A rate set that passed its checks: the supported rate in Hz, whether it is asynchronous, and
-/// whether it then wants a delayed response.
+/// A rate set that passed its checks: the rate in Hz, whether it is asynchronous, and whether it
+/// then wants a delayed response.
 #[derive(Clone, Copy)]
 pub(crate) struct RateSet {
     pub rate: u64,
@@ -48,7 +48,7 @@ pub(crate) fn check_set(
     ensures room { IfOk result (λ set. is_asynchronous flags ≡ true → load.room ≡ true) }
 {
     check_clock(plan, clock)?;
-    let set = rounded_set(&plan.clock(clock).rates, flags, rate)?;
+    let set = read_set(plan, clock, flags, rate)?;
     check_answerable(plan, caller, set.asynchronous)?;
     check_permitted(plan, base, caller, clock)?;
     check_pending(load, clock, set.asynchronous)?;
@@ -56,22 +56,26 @@ pub(crate) fn check_set(
 }
 
 /// What flags and a rate ask for; INVALID_PARAMETERS for unknown flags, and if no supported rate
-/// lies in the requested direction.
+/// lies in the requested direction, unless the clock is free.
 #[inline(always)]
-fn rounded_set(rates: &Rates, flags: u32, rate: u64) -> Result<RateSet, Status>
-    requires { HasValidRates (rates_of rates.now) }
-    ensures known { OnOk result (has_unknown_flags flags ≡ false) }
-    ensures rate { IfOk result (λ set.
-        rounded_rate (rates_of rates.now) flags rate ≡ Some set.rate) }
+fn read_set(plan: &Plan, clock: u32, flags: u32, rate: u64) -> Result<RateSet, Status>
+    requires { clock < length plan.now.clocks }
+    ensures rate { IfOk result (λ set. rate_for plan.now clock flags rate ≡ Some set.rate) }
     ensures asynchronous { IfOk result (λ set. set.asynchronous ≡ is_asynchronous flags) }
     ensures response_wanted { IfOk result (λ set. set.response_wanted ≡ is_response_wanted flags) }
+    ensures accepted { OnOk result
+        ((has_unknown_flags flags || is_none (rate_for plan.now clock flags rate)) ≡ false) }
     ensures status { IfErr result (λ status. status ≡ InvalidParameters) }
     ensures refused { IfErr result (λ status.
-        (has_unknown_flags flags
-        || is_none (rounded_rate (rates_of rates.now) flags rate)) ≡ true) }
+        (has_unknown_flags flags || is_none (rate_for plan.now clock flags rate)) ≡ true) }
 {
     let flags = SetFlags::read(flags)?;
-    let rate = round(rates, rate, flags.rounding).ok_or(Status::InvalidParameters)?;
+    let rate = if plan.is_free(clock) {
+        rate
+    } else {
+        let rates = &plan.clock(clock).rates;
+        round(rates, rate, flags.rounding).ok_or(Status::InvalidParameters)?
+    };
     Ok(RateSet {
         rate,
         asynchronous: flags.asynchronous,
@@ -120,12 +124,12 @@ fn check_may_configure(
     Ok(())
 }
 
-/// NOT_FOUND if the board has no such clock.
+/// NOT_FOUND if the board has no such clock, or it is not there (own).
 pub(crate) fn check_clock(plan: &Plan, clock: u32) -> Result<(), Status>
     ensures first { result ≡ (if no_clock plan.now clock then Err NotFound else Ok tt) }
     ensures clock { IfOk result (λ u. (clock < length plan.now.clocks) × (clock < CLOCKS)) }
 {
-    if clock >= plan.clocks() {
+    if clock >= plan.clocks() || plan.is_absent(Resource::Clock(clock)) {
         return Err(Status::NotFound);
     }
     Ok(())
@@ -158,7 +162,9 @@ fn check_answerable(plan: &Plan, caller: u32, asynchronous: bool) -> Result<(), 
 fn check_permitted(plan: &Plan, base: &BaseState, caller: u32, clock: u32) -> Result<(), Status>
     requires caller { IsAgent (length plan.now.agents) caller }
     requires clock { clock < length plan.now.clocks }
-    ensures { result ≡ (if may_change plan.now base.now caller clock then Ok tt else Err Denied) }
+    ensures ok { OnOk result (may_change plan.now base.now caller clock ≡ true) }
+    ensures denied { OnErr result (may_change plan.now base.now caller clock ≡ false) }
+    ensures status { IfErr result (λ status. status ≡ Denied) }
 {
     if !base.may_change(plan, caller, Resource::Clock(clock)) {
         return Err(Status::Denied);

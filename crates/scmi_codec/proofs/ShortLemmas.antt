@@ -42,11 +42,6 @@ read-four (x ∷ y ∷ z ∷ []) area e = absurd (omega arith)
 read-four (x ∷ y ∷ z ∷ w ∷ []) area e = refl
 read-four (x ∷ y ∷ z ∷ w ∷ v ∷ words) area e = absurd (omega arith)
 
-pub write-none : (words area : List ℕ) → length words ≡ 0 → area ≡ put_words 0x1C words area
-unfolding put_words
-write-none [] area e = refl
-write-none (x ∷ words) area e = absurd (omega arith)
-
 pub write-one : (words area : List ℕ) → length words ≡ 1 → put_word 0x1C (get_or words 0 0) area ≡ put_words 0x1C words area
 unfolding put_words
 write-one [] area e = absurd (omega arith)

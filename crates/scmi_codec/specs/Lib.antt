@@ -1,5 +1,6 @@
 pub mod Header
 pub mod Status
+pub mod Fault
 pub mod Payload
 pub mod Reply
 pub mod Rate

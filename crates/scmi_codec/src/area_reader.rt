@@ -67,7 +67,7 @@ pub(crate) fn read_frame(area: &[u8], words: usize, frame: &mut Frame)
         // Most commands have few words, and as many as the one before.
         if count <= 4 && is_well_formed_within(length, words) && message.payload.len() == count {
             message.header = Header::unpack(read_word(area, HEADER_AT));
-            read_words(area, message.payload.as_mut_slice());
+            read_few(area, message.payload.as_mut_slice());
             return;
         }
     }
@@ -89,21 +89,12 @@ fn read_any(area: &[u8], words: usize, frame: &mut Frame)
         return;
     }
     let count = payload_words(length) as usize;
-    match frame {
-        Frame::Good(message) => read_message(area, header, count, message),
-        Frame::Malformed { .. } => read_anew(area, header, count, frame),
+    if let Frame::Malformed { .. } = frame {
+        frame.set_empty();
     }
-}
-
-/// Reads a message as `read_message` into a frame that holds no message.
-fn read_anew(area: &[u8], header: u32, count: usize, frame: &mut Frame)
-    requires few { count ≤ PAYLOAD_WORDS }
-    requires room { 0x1C + 4 * count ≤ length area.now }
-    ensures { frame.new ≡ Good (message_of header (words_at 0x1C count area.now)) }
-{
-    let mut message = Message::default();
-    read_message(area, header, count, &mut message);
-    *frame = Frame::Good(message);
+    if let Frame::Good(message) = frame {
+        read_message(area, header, count, message);
+    }
 }
 
 /// Reads a message of this header word and this many payload words of an area into `message`.
@@ -127,32 +118,43 @@ fn read_payload(area: &[u8], count: usize, payload: &mut Payload)
     read_words(area, payload.as_mut_slice());
 }
 
-/// Reads the first payload words of an area over as many others. Commands have four at most, which
-/// take no loop.
+/// Reads the first payload words of an area over as many others.
 fn read_words(area: &[u8], words: &mut [u32])
     requires room { 0x1C + 4 * length words.old ≤ length area.now }
     ensures { words.new ≡ words_at 0x1C (length words.old) area.now }
 {
-    match words.len() {
-        0 => {}
-        1 => words[0] = read_word(area, PAYLOAD_AT),
-        2 => {
-            words[0] = read_word(area, PAYLOAD_AT);
-            words[1] = read_word(area, PAYLOAD_AT + 4);
-        }
-        3 => {
-            words[0] = read_word(area, PAYLOAD_AT);
-            words[1] = read_word(area, PAYLOAD_AT + 4);
-            words[2] = read_word(area, PAYLOAD_AT + 8);
-        }
-        4 => {
-            words[0] = read_word(area, PAYLOAD_AT);
-            words[1] = read_word(area, PAYLOAD_AT + 4);
-            words[2] = read_word(area, PAYLOAD_AT + 8);
-            words[3] = read_word(area, PAYLOAD_AT + 12);
-        }
-        _ => read_many(area, words),
+    if words.len() <= 4 {
+        read_few(area, words);
+    } else {
+        read_many(area, words);
     }
+}
+
+/// Reads the first payload words of an area over as many others, at most four, as many as commands
+/// have. They take no loop, and no table of jumps.
+#[inline(never)]
+fn read_few(area: &[u8], words: &mut [u32])
+    requires few { length words.old ≤ 4 }
+    requires room { 0x1C + 4 * length words.old ≤ length area.now }
+    ensures { words.new ≡ words_at 0x1C (length words.old) area.now }
+{
+    let count = words.len();
+    if count == 0 {
+        return;
+    }
+    words[0] = read_word(area, PAYLOAD_AT);
+    if count == 1 {
+        return;
+    }
+    words[1] = read_word(area, PAYLOAD_AT + 4);
+    if count == 2 {
+        return;
+    }
+    words[2] = read_word(area, PAYLOAD_AT + 8);
+    if count == 3 {
+        return;
+    }
+    words[3] = read_word(area, PAYLOAD_AT + 12);
 }
 
 /// Reads the first payload words of an area over as many others.

@@ -5,7 +5,7 @@ ghost use Rattle.scmi_codec.specs.Word.{put_word, put_words};
 ghost use Rattle.scmi_codec.specs.Area.{message_of, header_at, area_after_write, area_after_answer, StandsWithin, StandsForAnswerWithin, frame_within, IsOutside, IsUntouched};
 ghost use Rattle.scmi_codec.specs.ChannelArea.{answer_words};
 ghost use Rattle.scmi_codec.specs.declared.frame.Frame.TheVariants.{Good};
-ghost use Rattle.scmi_codec.specs.declared.frame.Answer.TheVariants.{Reply};
+ghost use Rattle.scmi_codec.specs.declared.frame.Answer.TheVariants.{ChannelError, Reply};
 ghost use Rattle.scmi_codec.specs.declared.payload.TheConstants.{PAYLOAD_WORDS};
 
 use crate::area_layout::{HEADER_AT, LENGTH_AT, PAYLOAD_AT, STATUS_AT};
@@ -30,11 +30,21 @@ pub(crate) fn put_answer(area: &mut [u8], answer: &Answer)
     match answer {
         Answer::Reply(message) => put_message(area, message, ChannelStatus::FREE.bits()),
         Answer::Released => write_word(area, STATUS_AT, ChannelStatus::FREE.bits()),
-        Answer::ChannelError => {
-            let status = ChannelStatus::FREE.union(ChannelStatus::ERROR);
-            write_word(area, STATUS_AT, status.bits());
-        }
+        Answer::ChannelError => put_error(area),
     }
+}
+
+/// Marks the channel of an area free with the error bit.
+pub(crate) fn put_error(area: &mut [u8])
+    requires room { 8 ≤ length area.old }
+    ensures written { area.new ≡ area_after_answer ChannelError area.old }
+    ensures stands { (words : ℕ) →
+        StandsForAnswerWithin words area.new (frame_within words area.old) ChannelError }
+    ensures rest { (i : ℕ) → IsUntouched ChannelError i →
+        slice_index area.new i ≡ slice_index area.old i }
+{
+    let status = ChannelStatus::FREE.union(ChannelStatus::ERROR);
+    write_word(area, STATUS_AT, status.bits());
 }
 
 /// Writes a response to the message that is in an area, whose header word stays as it is.
@@ -85,42 +95,27 @@ fn write_parts(area: &mut [u8], header: u32, words: &[u32], status: u32)
     write_word(area, STATUS_AT, status);
 }
 
-/// Writes the payload words. Most replies have one to three, which take no loop; one word, which
-/// a command that sets a value is answered with, takes no table of jumps.
+/// Writes the payload words. Most replies have one to three, which take no loop, and no table of
+/// jumps.
 fn write_payload(area: &mut [u8], words: &[u32])
     requires room { 0x1C + 4 * length words.now ≤ length area.old }
     ensures written { area.new ≡ put_words 0x1C words.now area.old }
     ensures words { AllByRecursion (λ w. w < 2 ^ 32) words.now }
 {
-    if words.len() < 2 {
-        write_short(area, words);
+    let count = words.len();
+    if count == 0 || count > 3 {
+        write_words(area, words);
         return;
     }
-    match words.len() {
-        2 => {
-            write_word(area, PAYLOAD_AT, words[0]);
-            write_word(area, PAYLOAD_AT + 4, words[1]);
-        }
-        3 => {
-            write_word(area, PAYLOAD_AT, words[0]);
-            write_word(area, PAYLOAD_AT + 4, words[1]);
-            write_word(area, PAYLOAD_AT + 8, words[2]);
-        }
-        _ => write_words(area, words),
+    write_word(area, PAYLOAD_AT, words[0]);
+    if count == 1 {
+        return;
     }
-}
-
-/// Writes one payload word, or none.
-fn write_short(area: &mut [u8], words: &[u32])
-    requires few { length words.now ≤ 1 }
-    requires room { 0x1C + 4 * length words.now ≤ length area.old }
-    ensures written { area.new ≡ put_words 0x1C words.now area.old }
-    ensures words { AllByRecursion (λ w. w < 2 ^ 32) words.now }
-{
-    match words.len() {
-        1 => write_word(area, PAYLOAD_AT, words[0]),
-        _ => {}
+    write_word(area, PAYLOAD_AT + 4, words[1]);
+    if count == 2 {
+        return;
     }
+    write_word(area, PAYLOAD_AT + 8, words[2]);
 }
 
 /// Writes words as the payload of an area.

@@ -3,13 +3,13 @@ ghost use Rattle.std.specs.Prelude.{◌≡◌, ◌≢◌, ◌+◌, ◌*◌, ◌�
 ghost use Rattle.scmi_codec.specs.Area.{header_at, message_of, area_after_answer, area_after_post, waiting_within, StandsForAnswerWithin, IsUntouched, IsOutside};
 ghost use Rattle.scmi_codec.specs.ChannelArea.{is_channel_size, channel_bytes, channel_words, capacity, channel_frame, channel_waiting, answer_words, room_for};
 ghost use Rattle.scmi_codec.specs.declared.frame.Frame.TheVariants.{Good};
-ghost use Rattle.scmi_codec.specs.declared.frame.Answer.TheVariants.{Reply};
+ghost use Rattle.scmi_codec.specs.declared.frame.Answer.TheVariants.{ChannelError, Reply};
 ghost use Rattle.scmi_codec.specs.declared.payload.TheConstants.{PAYLOAD_WORDS};
 
 use crate::area::AREA_BYTES;
 use crate::area_layout::PAYLOAD_AT;
 use crate::area_reader::{is_marked_free, read_frame};
-use crate::area_writer::{put_answer, put_message, put_response};
+use crate::area_writer::{put_answer, put_error, put_message, put_response};
 use crate::channel_status::ChannelStatus;
 use crate::frame::{Answer, Frame};
 use crate::message::Message;
@@ -127,6 +127,23 @@ pub fn write_channel_answer(area: &mut [u8], answer: &Answer) -> Result<(), Chan
 {
     check_room(area, words_of(answer))?;
     put_answer(area, answer);
+    Ok(())
+}
+
+/// Marks the channel free with the error bit, as `write_channel_answer` writes a channel error. It
+/// needs no `Answer`, which has room for a reply. `WrongSize` if the number of bytes is not a
+/// channel's, and then nothing is written.
+pub fn write_channel_error(area: &mut [u8]) -> Result<(), ChannelAreaError>
+    ensures size { result ≡ room_for 0 area.old }
+    ensures written { OnOk result (area.new ≡ area_after_answer ChannelError area.old) }
+    ensures stands { OnOk result (StandsForAnswerWithin (capacity area.old) area.new
+        (channel_frame area.old) ChannelError) }
+    ensures rest { OnOk result ((i : ℕ) → IsUntouched ChannelError i
+        → slice_index area.new i ≡ slice_index area.old i) }
+    ensures err { OnErr result (area.new ≡ area.old) }
+{
+    check_room(area, 0)?;
+    put_error(area);
     Ok(())
 }
 

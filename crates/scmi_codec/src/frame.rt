@@ -1,8 +1,11 @@
 //! What a caller puts into a channel, and what the callee answers.
-ghost use Rattle.std.specs.Prelude.{◌≡◌};
-ghost use Rattle.scmi_codec.specs.declared.frame.Frame.TheVariants.{Malformed};
+ghost use Rattle.std.specs.Prelude.{◌≡◌, []};
+ghost use Rattle.scmi_codec.specs.Area.{message_of};
+ghost use Rattle.scmi_codec.specs.declared.frame.Frame.TheVariants.{Good, Malformed};
 
+use crate::header::Header;
 use crate::message::Message;
+use arrayvec::ArrayVec;
 
 /// What is in an area that is not free: a message, or a length that is not well formed.
 #[derive(Clone, PartialEq, Eq, Debug, Drop)]
@@ -48,6 +51,18 @@ impl Frame {
             },
             Frame::Malformed { length, header } => self.set_malformed(*length, *header),
         }
+    }
+
+    /// Becomes a message of header word 0 without payload words. What it is made of is not a local
+    /// of the callers.
+    #[inline(never)]
+    pub fn set_empty(&mut self)
+        ensures { self.new ≡ Good (message_of 0 []) }
+    {
+        *self = Frame::Good(Message {
+            header: Header::unpack(0),
+            payload: ArrayVec::new(),
+        });
     }
 
     /// Becomes a frame whose length in bytes, as given, is not well formed. What it is made

@@ -16,6 +16,7 @@ mod channel_area;
 mod channel_status;
 mod clock_command;
 mod command;
+mod fault;
 mod flag_word;
 mod frame;
 mod header;
@@ -39,11 +40,13 @@ pub use base_command::{BASE_PROTOCOL, BaseCommand};
 pub use channel_area::{
     ChannelAreaError, LEAST_AREA_BYTES, LEAST_PAYLOAD_WORDS, channel_bytes, channel_frame,
     channel_words, is_channel_free, is_channel_size, read_channel_area, read_channel_area_into,
-    write_channel_answer, write_channel_message, write_channel_reply, write_channel_response,
+    write_channel_answer, write_channel_error, write_channel_message, write_channel_reply,
+    write_channel_response,
 };
 pub use channel_status::ChannelStatus;
 pub use clock_command::{CLOCK_PROTOCOL, ClockCommand};
 pub use command::Command;
+pub use fault::Fault;
 pub use flag_word::single_flag;
 pub use frame::{Answer, Frame};
 pub use header::{DELAYED_RESPONSE, Header, NOTIFICATION, TOKENS};

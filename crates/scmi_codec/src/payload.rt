@@ -83,7 +83,8 @@ fn copy_words(own: &mut [u32], words: &[u32])
 }
 
 /// Makes a payload that of an error response, in place: the status word alone (own).
-#[inline]
+// Out of line, since it is called at many places.
+#[inline(never)]
 pub fn set_refusal(payload: &mut Payload, status: Status)
     ensures { payload.new.items ≡ status_word status ∷ [] }
 {

@@ -61,7 +61,7 @@ impl Status {
         ensures code { result ≡ status_word self.now }
         ensures back { status_of result ≡ Some self.now }
     {
-        STATUSES[*self as usize].word
+        0u32.wrapping_sub(*self as u32)
     }
 
     /// The status of a payload word; `None` if the word is not a code.

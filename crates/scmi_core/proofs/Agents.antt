@@ -6,7 +6,7 @@ use Rattle.scmi_codec.specs.declared.frame.Frame.{Frame}
 use Rattle.scmi_codec.specs.declared.frame.Answer.{Answer}
 use Rattle.scmi_plan.specs.Board.{Board}
 use Rattle.scmi_core.specs.declared.event.Event.{Event}
-use Rattle.scmi_core.specs.declared.event.Event.TheVariants.{Command, Advance, Sent, CommandFailed, AdvanceFailed, Restarted}
+use Rattle.scmi_core.specs.declared.event.Event.TheVariants.{Command, Advance, Sent, CommandFailed, AdvanceFailed, Restarted, Reported}
 use Rattle.scmi_core.specs.Deed.{fold_with_prefix}
 use Rattle.scmi_core.specs.History.{answer_to}
 use Rattle.scmi_core.specs.Reply.{failed_answer}
@@ -21,9 +21,10 @@ module _ (board : Board) (a : ℕ) where
   one before (Command b f) fs = if_one (a == b) f (answer_to board b f before) fs
   one before Advance fs = omega arith
   one before (Sent b) fs = omega arith
-  one before (CommandFailed b f) fs = if_one (a == b) f (failed_answer f) fs
-  one before AdvanceFailed fs = omega arith
+  one before (CommandFailed b f fault) fs = if_one (a == b) f (failed_answer f fault) fs
+  one before (AdvanceFailed fault) fs = omega arith
   one before (Restarted b) fs = omega arith
+  one before (Reported effect) fs = omega arith
 
   from : (before : List Event) (so_far : List Answer) (h : List Event)
       → length (fold_with_prefix (λ b xs e. xs ++ answer_for board a b e) before so_far h) ≡ length so_far + length (filter_map (frame_from a) h)

@@ -26,7 +26,8 @@ use Rattle.scmi_clock.specs.ClockReply.{ClockView, clock_reply}
 use Rattle.scmi_clock.specs.ClockTable.{rate_later}
 use Rattle.scmi_core.specs.declared.pending_set.PendingSet.{PendingSet}
 use Rattle.scmi_core.specs.declared.event.Event.{Event}
-use Rattle.scmi_core.specs.declared.event.Event.TheVariants.{Command, Advance, Sent, CommandFailed, AdvanceFailed, Restarted}
+use Rattle.scmi_codec.specs.declared.fault.Fault.{Fault}
+use Rattle.scmi_core.specs.declared.event.Event.TheVariants.{Command, Advance, Sent, CommandFailed, AdvanceFailed, Restarted, Reported}
 use Rattle.scmi_core.specs.declared.tables.Tables.{Tables}
 use Rattle.std.specs.Option.{option_to_list, option_and_then}
 use Rattle.scmi_core.specs.Deed.{Deed, success_of, success_with, fold_with_prefix, restarted_by}
@@ -223,27 +224,27 @@ bounds-advance board h enough_sent had =
     }
 
 -- and so does one that failed
-failed-left : (a : ℕ) (xs : List PendingSet) → length (option_map_or (failed_response_for a) (slice_get xs 0) []) + length (sets_by a (drop 1 xs)) ≤ length (sets_by a xs)
-failed-left a [] = omega arith
-failed-left a (p ∷ ps) = by (p.agent == a) p.wanted where
-  by : (is wanted : Bool) → length (if is && wanted then failed_response_to p.header ∷ [] else []) + length (sets_by a ps) ≤ length (if is then p ∷ sets_by a ps else sets_by a ps)
+failed-left : (a : ℕ) (fault : Fault) (xs : List PendingSet) → length (option_map_or (failed_response_for a fault) (slice_get xs 0) []) + length (sets_by a (drop 1 xs)) ≤ length (sets_by a xs)
+failed-left a fault [] = omega arith
+failed-left a fault (p ∷ ps) = by (p.agent == a) p.wanted where
+  by : (is wanted : Bool) → length (if is && wanted then failed_response_to p.header fault ∷ [] else []) + length (sets_by a ps) ≤ length (if is then p ∷ sets_by a ps else sets_by a ps)
   by true true = omega arith
   by true false = omega arith
   by false wanted = omega arith
 
-bounds-failed : (board : Board) (h : List Deed) → ((a : ℕ) → sent_count a h ≤ length (messages_made board a h)) → HasBounds board h → HasBounds board (h ++ record { event = AdvanceFailed; reply = [] } ∷ [])
-bounds-failed board h enough_sent had =
-    let deed : Deed = record { event = AdvanceFailed; reply = [] } in
+bounds-failed : (board : Board) (h : List Deed) (fault : Fault) → ((a : ℕ) → sent_count a h ≤ length (messages_made board a h)) → HasBounds board h → HasBounds board (h ++ record { event = AdvanceFailed fault; reply = [] } ∷ [])
+bounds-failed board h fault enough_sent had =
+    let deed : Deed = record { event = AdvanceFailed fault; reply = [] } in
     let old = had.pending in
     record {
-      pending = rw (pending_sets-failed board h, length-drop 1 (pending_sets board h)) (omega arith);
+      pending = rw (pending_sets-failed board h fault, length-drop 1 (pending_sets board h)) (omega arith);
       loads = λ a.
           let before = had.loads a in
-          let step = failed-left a (pending_sets board h) in
-          let failures = option_map_or (failed_response_for a) (slice_get (pending_sets board h) 0) [] in
+          let step = failed-left a fault (pending_sets board h) in
+          let failures = option_map_or (failed_response_for a fault) (slice_get (pending_sets board h) 0) [] in
           let nothing : made_by board a h (messages_made board a h) deed ≡ failures
           = ap (λ ys. failures ++ ys) (nothing-made a (situation_after board a h) (pending_sets board (h ++ deed ∷ []))) ∙ append-nil failures in
-          rw (outbox-push board a h deed refl (enough_sent a), length-append (outbox_after board a h) (made_by board a h (messages_made board a h) deed), nothing, pending_sets-failed board h) (omega arith);
+          rw (outbox-push board a h deed refl (enough_sent a), length-append (outbox_after board a h) (made_by board a h (messages_made board a h) deed), nothing, pending_sets-failed board h fault) (omega arith);
     }
 
 bounds-sent : (board : Board) (h : List Deed) (b : ℕ) → advances h ≤ length (accepted_sets board h) → HasBounds board h → HasBounds board (h ++ record { event = Sent b; reply = [] } ∷ [])
@@ -291,11 +292,13 @@ bounds-more board h (Command b (Good m)) enough enough_sent had =
       by false = fits-none board h had
 bounds-more board h (Command b (Malformed len header)) enough enough_sent had =
     settled board h (deed_after board h (Command b (Malformed len header))) refl (λ a. refl) refl refl refl enough enough_sent (fits-none board h had)
-bounds-more board h (CommandFailed b (Good m)) enough enough_sent had =
-    settled board h (deed_after board h (CommandFailed b (Good m))) refl (λ a. refl) refl refl refl enough enough_sent (fits-none board h had)
-bounds-more board h (CommandFailed b (Malformed len header)) enough enough_sent had =
-    settled board h (deed_after board h (CommandFailed b (Malformed len header))) refl (λ a. refl) refl refl refl enough enough_sent (fits-none board h had)
-bounds-more board h AdvanceFailed enough enough_sent had = bounds-failed board h enough_sent had
+bounds-more board h (CommandFailed b (Good m) fault) enough enough_sent had =
+    settled board h (deed_after board h (CommandFailed b (Good m) fault)) refl (λ a. refl) refl refl refl enough enough_sent (fits-none board h had)
+bounds-more board h (CommandFailed b (Malformed len header) fault) enough enough_sent had =
+    settled board h (deed_after board h (CommandFailed b (Malformed len header) fault)) refl (λ a. refl) refl refl refl enough enough_sent (fits-none board h had)
+bounds-more board h (AdvanceFailed fault) enough enough_sent had = bounds-failed board h fault enough_sent had
+bounds-more board h (Reported effect) enough enough_sent had =
+    settled board h (deed_after board h (Reported effect)) refl (λ a. refl) refl refl refl enough enough_sent (fits-none board h had)
 bounds-more board h (Restarted b) enough enough_sent had = bounds-restarted board h b enough enough_sent had
 bounds-more board h Advance enough enough_sent had = bounds-advance board h enough_sent had
 bounds-more board h (Sent b) enough enough_sent had = bounds-sent board h b enough had

@@ -1,5 +1,5 @@
--- Each change of a legal history came of a command of its causer, who might make it there.
-use Rattle.std.proofs.Common.{◌≡◌, ℕ, ◌==◌, ◌&&◌, Bool, true, false, not, List, [], ◌∷◌, ◌++◌, length, map, slice_get, Option, Some, None, Result, Ok, Err, option_map, unwrap_or, refl, sym, ap, ◌∙◌, subst, if◌then◌else◌}
+-- Each change of a legal history came of a command of its causer, who might make it there, or the hardware reported it.
+use Rattle.std.proofs.Common.{◌≡◌, ◌⊎◌, inl, inr, ℕ, ◌==◌, ◌&&◌, Bool, true, false, not, List, [], ◌∷◌, ◌++◌, length, map, slice_get, Option, Some, None, Result, Ok, Err, option_map, unwrap_or, refl, sym, ap, ◌∙◌, subst, if◌then◌else◌}
 use Rattle.std.specs.List.{All}
 use Rattle.std.specs.Option.{option_and_then, option_or, option_to_list}
 use Rattle.std.proofs.lemmas.List.{append_assoc, append-nil}
@@ -26,18 +26,20 @@ use Rattle.scmi_power.specs.PowerReply.{may_set, power_reply}
 use Rattle.scmi_clock.specs.ClockReply.{clock_reply}
 use Rattle.scmi_clock.specs.ClockTable.{set_rate}
 use Rattle.scmi_clock.specs.SetFlags.{is_asynchronous, is_response_wanted}
+use Rattle.scmi_plan.specs.declared.effect.Effect.{Effect}
+use Rattle.scmi_plan.specs.declared.effect.Effect.TheVariants as effect
 use Rattle.scmi_core.specs.declared.event.Event.{Event}
-use Rattle.scmi_core.specs.declared.event.Event.TheVariants.{Command, Advance, Sent, CommandFailed, AdvanceFailed, Restarted}
+use Rattle.scmi_core.specs.declared.event.Event.TheVariants.{Command, Advance, Sent, CommandFailed, AdvanceFailed, Restarted, Reported}
 use Rattle.scmi_core.specs.declared.pending_set.PendingSet.{PendingSet}
 use Rattle.scmi_core.specs.Deed.{Success, fold_with_prefix, success_at, success_of, success_with}
 use Rattle.scmi_core.specs.History.{deed_after, deeds}
-use Rattle.scmi_core.specs.Laws.{HasCause, HasIntegrity, IsKeptOn, KeepsOn, change_asked, may_after, resource_of}
+use Rattle.scmi_core.specs.Laws.{HasCause, HasIntegrity, HasOrigin, IsKeptOn, IsKeptOnByAgents, IsReported, KeepsOn, change_asked, may_after, resource_of}
 use Rattle.scmi_core.specs.Legal.{CanFollow, IsLegal}
 use Rattle.scmi_core.specs.Outbox.{situation_after}
 use Rattle.scmi_core.specs.Pending.{acceptance, pending_sets, rate_set, state_set, unwanted}
 use Rattle.scmi_core.specs.Reply.{fits_channel, reply_words}
 use Rattle.scmi_core.specs.Situation.{Situation, clock_view, power_view}
-use Rattle.scmi_core.specs.Value.{Change, Enabled, Rate, State, bit_value, change_now, changes, completion}
+use Rattle.scmi_core.specs.Value.{Change, Enabled, Rate, State, bit_value, change_now, change_reported, changes, completion}
 use Rattle.scmi_core.proofs.Deeds.{changes-push}
 use Rattle.scmi_core.proofs.Following.{change-is, change_in, pending-next, pending_next}
 use Rattle.scmi_core.proofs.Legal.{Grown, IsLegal-front, IsLegal-last, advances_le-accepted, deeds-push, empty, grow, grown}
@@ -209,6 +211,20 @@ cause-kept board h e change had = record {
   kept = had.kept;
 }
 
+reported-kept : (board : Board) (h : List Event) (e : Event) (change : Change) → IsReported board h change → IsReported board (h ++ e ∷ []) change
+reported-kept board h e change had = record {
+  before = had.before;
+  effect = had.effect;
+  after = had.after ++ e ∷ [];
+  place = ap (λ xs. xs ++ e ∷ []) had.place ∙ append_assoc had.before (Reported had.effect ∷ had.after) (e ∷ []);
+  says = had.says;
+  known = had.known;
+}
+
+origin-kept : (board : Board) (h : List Event) (e : Event) (change : Change) → HasOrigin board h change → HasOrigin board (h ++ e ∷ []) change
+origin-kept board h e change (inl had) = inl (cause-kept board h e change had)
+origin-kept board h e change (inr had) = inr (reported-kept board h e change had)
+
 -- a command is the cause of what it asked for
 cause : (board : Board) (h : List Event) (a : ℕ) (m : Message) (change : Change) → IsAgent (length board.agents) a
     → option_and_then (change_asked board) (success_at (Command a (Good m)) (deed_after board (deeds board h) (Command a (Good m))).reply) ≡ Some change → HasCause board (h ++ Command a (Good m) ∷ []) change
@@ -231,13 +247,13 @@ cause board h a m change agent asked =
       given true asked = asked-own board a m.header (situation_after board a (deeds board h)) change (command_of m) asked
       given false asked = absurd (cc)
 
--- each change so far, and each that a pending set is to make, has its cause
+-- each change so far has its cause or was reported, and each that a pending set is to make has its cause
 record HasCauses (board : Board) (h : List Event) : Type 0 where
   pub changed : HasIntegrity board h
   pub pending : All (λ p. HasCause board h (completion p)) (pending_sets board (deeds board h))
 
 causes-more : (board : Board) (h : List Event) (e : Event) → IsLegal board h → HasCauses board h
-    → ((change : Change) → change_in board (pending_sets board (deeds board h)) (deed_after board (deeds board h) e) ≡ Some change → HasCause board (h ++ e ∷ []) change)
+    → ((change : Change) → change_in board (pending_sets board (deeds board h)) (deed_after board (deeds board h) e) ≡ Some change → HasOrigin board (h ++ e ∷ []) change)
     → (All (λ p. HasCause board (h ++ e ∷ []) (completion p)) (pending_sets board (deeds board h)) → All (λ p. HasCause board (h ++ e ∷ []) (completion p)) (pending_next board (pending_sets board (deeds board h)) (deed_after board (deeds board h) e)))
     → HasCauses board (h ++ e ∷ [])
 causes-more board h e legal had new left =
@@ -248,10 +264,10 @@ causes-more board h e legal had new left =
     let pend : pending_sets board (deeds board (h ++ e ∷ [])) ≡ pending_next board (pending_sets board ds) deed
     = ap (pending_sets board) (deeds-push board h e) ∙ pending-next board ds e (advances_le-accepted board h legal) in
     record {
-      changed = subst (All (HasCause board (h ++ e ∷ []))) (sym more)
-          (All-append (HasCause board (h ++ e ∷ [])) (changes board ds) (option_to_list (change_in board (pending_sets board ds) deed))
-          (All-weaker (HasCause board h) (HasCause board (h ++ e ∷ [])) (cause-kept board h e) (changes board ds) had.changed)
-          (All-option (HasCause board (h ++ e ∷ [])) (change_in board (pending_sets board ds) deed) new));
+      changed = subst (All (HasOrigin board (h ++ e ∷ []))) (sym more)
+          (All-append (HasOrigin board (h ++ e ∷ [])) (changes board ds) (option_to_list (change_in board (pending_sets board ds) deed))
+          (All-weaker (HasOrigin board h) (HasOrigin board (h ++ e ∷ [])) (origin-kept board h e) (changes board ds) had.changed)
+          (All-option (HasOrigin board (h ++ e ∷ [])) (change_in board (pending_sets board ds) deed) new));
       pending = subst (All (λ p. HasCause board (h ++ e ∷ []) (completion p))) (sym pend) (left
           (All-weaker (λ p. HasCause board h (completion p)) (λ p. HasCause board (h ++ e ∷ []) (completion p)) (λ p. cause-kept board h e (completion p)) (pending_sets board ds) had.pending));
     }
@@ -276,14 +292,14 @@ module _ (board : Board) (h : List Event) (legal : IsLegal board h) (had : HasCa
       let success = success_at (Command a (Good m)) (deed_after board (deeds board h) (Command a (Good m))).reply in
       let set = option_and_then (acceptance board) success in
       causes-more board h (Command a (Good m)) legal had
-      (λ change is. cause board h a m change follows (now-asked board success change is))
+      (λ change is. inl (cause board h a m change follows (now-asked board success change is)))
       (λ all.
       All-append (λ p. HasCause board (h ++ Command a (Good m) ∷ []) (completion p)) (pending_sets board (deeds board h)) (option_to_list set) all
       (All-option (λ p. HasCause board (h ++ Command a (Good m) ∷ []) (completion p)) set
       (λ p is. cause board h a m (completion p) follows (later-asked board success p is))))
   causes (Command a (Malformed len header)) follows = causes-idle (Command a (Malformed len header)) refl refl
-  causes (CommandFailed a (Good m)) follows = causes-idle (CommandFailed a (Good m)) refl refl
-  causes (CommandFailed a (Malformed len header)) follows = causes-idle (CommandFailed a (Malformed len header)) refl refl
+  causes (CommandFailed a (Good m) fault) follows = causes-idle (CommandFailed a (Good m) fault) refl refl
+  causes (CommandFailed a (Malformed len header) fault) follows = causes-idle (CommandFailed a (Malformed len header) fault) refl refl
   causes (Sent a) follows = causes-idle (Sent a) refl refl
   causes (Restarted a) follows =
       let pending = pending_sets board (deeds board h) in
@@ -291,17 +307,22 @@ module _ (board : Board) (h : List Event) (legal : IsLegal board h) (had : HasCa
       (λ all.
       All-same (λ p. HasCause board (h ++ Restarted a ∷ []) (completion p)) (map (unwanted a) pending ++ []) (map (unwanted a) pending) (append-nil (map (unwanted a) pending))
       (All-map (λ p. HasCause board (h ++ Restarted a ∷ []) (completion p)) (unwanted a) pending all))
+  causes (Reported effect) follows =
+      let pending = pending_sets board (deeds board h) in
+      causes-more board h (Reported effect) legal had
+      (λ change is. inr (record { before = h; effect = effect; after = []; place = refl; says = sym (ap (λ o. unwrap_or o change) is); known = follows }))
+      (λ all. All-same (λ p. HasCause board (h ++ Reported effect ∷ []) (completion p)) (pending ++ []) pending (append-nil pending) all)
   causes Advance follows =
       causes-more board h Advance legal had
-      (λ change is. cause-kept board h Advance change (completed-cause board h (pending_sets board (deeds board h)) change had.pending is))
+      (λ change is. inl (cause-kept board h Advance change (completed-cause board h (pending_sets board (deeds board h)) change had.pending is)))
       (λ all. All-drop (λ p. HasCause board (h ++ Advance ∷ []) (completion p)) 1 (pending_sets board (deeds board h)) all)
-  causes AdvanceFailed follows =
-      causes-more board h AdvanceFailed legal had (λ change is. absurd (cc))
-      (λ all. All-drop (λ p. HasCause board (h ++ AdvanceFailed ∷ []) (completion p)) 1 (pending_sets board (deeds board h)) all)
+  causes (AdvanceFailed fault) follows =
+      causes-more board h (AdvanceFailed fault) legal had (λ change is. absurd (cc))
+      (λ all. All-drop (λ p. HasCause board (h ++ AdvanceFailed fault ∷ []) (completion p)) 1 (pending_sets board (deeds board h)) all)
 
 causes_of : (board : Board) {h : List Event} → Grown h → IsLegal board h → HasCauses board h
 unfolding deeds fold_with_prefix
-causes_of board empty legal = record { changed = All-nil (HasCause board []); pending = All-nil (λ p. HasCause board [] (completion p)) }
+causes_of board empty legal = record { changed = All-nil (HasOrigin board []); pending = All-nil (λ p. HasCause board [] (completion p)) }
 causes_of board (grow {xs} g e) legal =
     let front = IsLegal-front board xs e legal in
     causes board xs front (causes_of board g front) e (IsLegal-last board xs e legal)
@@ -309,7 +330,17 @@ causes_of board (grow {xs} g e) legal =
 pub integrity : (board : Board) (h : List Event) → IsLegal board h → HasIntegrity board h
 integrity board h legal = (causes_of board (grown h) legal).changed
 
--- no change switches off what the board keeps
+-- what was reported is of no agent
+of_no_agent : (effect : Effect) → (change_reported effect).causer ≡ 0
+of_no_agent (effect.State d state) = refl
+of_no_agent (effect.Rate c rate) = refl
+of_no_agent (effect.Enabled c enabled) = refl
+
+kept-by : (board : Board) (h : List Event) (change : Change) → HasOrigin board h change → IsKeptOnByAgents board change
+kept-by board h change (inl had) = λ some. had.kept
+kept-by board h change (inr had) = λ some. absurd (some (ap (λ c. c.causer) had.says ∙ of_no_agent had.effect))
+
+-- no change by an agent switches off what the board keeps
 pub kept_on : (board : Board) (h : List Event) → IsLegal board h → KeepsOn board h
 kept_on board h legal =
-    All-weaker (HasCause board h) (IsKeptOn board) (λ change had. had.kept) (changes board (deeds board h)) (integrity board h legal)
+    All-weaker (HasOrigin board h) (IsKeptOnByAgents board) (kept-by board h) (changes board (deeds board h)) (integrity board h legal)

@@ -29,7 +29,8 @@ use Rattle.scmi_power.specs.PowerTable.{notification, set_later}
 use Rattle.scmi_clock.specs.ClockReply.{clock_reply}
 use Rattle.scmi_clock.specs.ClockTable.{rate_later}
 use Rattle.scmi_core.specs.declared.event.Event.{Event}
-use Rattle.scmi_core.specs.declared.event.Event.TheVariants.{Command, Advance, Sent, CommandFailed, AdvanceFailed, Restarted}
+use Rattle.scmi_codec.specs.declared.fault.Fault.{Fault}
+use Rattle.scmi_core.specs.declared.event.Event.TheVariants.{Command, Advance, Sent, CommandFailed, AdvanceFailed, Restarted, Reported}
 use Rattle.scmi_core.specs.declared.pending_set.PendingSet.{PendingSet}
 use Rattle.scmi_core.specs.declared.pending_set.Setting.{Setting}
 use Rattle.scmi_core.specs.declared.pending_set.Setting.TheVariants as setting
@@ -43,7 +44,7 @@ use Rattle.scmi_core.specs.Pending.{acceptance, sets_by, unwanted}
 use Rattle.scmi_core.specs.Reply.{fits_channel, reply_words}
 use Rattle.scmi_core.specs.Situation.{Situation, clock_view, power_view}
 use Rattle.scmi_core.specs.Subscriptions.{subscription, subscription_after_reset, subscription_at}
-use Rattle.scmi_core.specs.Value.{Change, Enabled, Rate, State, Thing}
+use Rattle.scmi_core.specs.Value.{Change, Enabled, Rate, State, Thing, fault_in}
 use Rattle.scmi_core.proofs.Following.{change_in, completed_in, failed_in, made_next, messages-next, next, pending_next, situation-next}
 use Rattle.scmi_core.proofs.Isolation.{answers-push}
 use Rattle.scmi_core.proofs.Legal.{Grown, IsLegal-front, advances_le-accepted, deeds-push, empty, grow, grown, sent_le-made}
@@ -67,20 +68,21 @@ one-answer board a h (Command c frame) law = by (a == c) refl where
       All-cons (IsAnswerWithin board a) (answer_to board c frame h) []
       (subst (λ x. IsAnswerWithin board a (answer_to board x frame h)) (eqb-true a c own) (answer-within board a frame h law)) (All-nil (IsAnswerWithin board a))
   by false other = All-nil (IsAnswerWithin board a)
-one-answer board a h (CommandFailed c (Good m)) law = by (a == c) where
-  by : (own : Bool) → All (IsAnswerWithin board a) (if own then Reply (message_with m.header failed_words) ∷ [] else [])
+one-answer board a h (CommandFailed c (Good m) fault) law = by (a == c) where
+  by : (own : Bool) → All (IsAnswerWithin board a) (if own then Reply (message_with m.header (failed_words fault)) ∷ [] else [])
   by true =
       let least = (valid_channel board a law).0 in
-      All-cons (IsAnswerWithin board a) (Reply (message_with m.header failed_words)) [] (omega (arith, least)) (All-nil (IsAnswerWithin board a))
+      All-cons (IsAnswerWithin board a) (Reply (message_with m.header (failed_words fault))) [] (omega (arith, least)) (All-nil (IsAnswerWithin board a))
   by false = All-nil (IsAnswerWithin board a)
-one-answer board a h (CommandFailed c (Malformed len header)) law = by (a == c) where
+one-answer board a h (CommandFailed c (Malformed len header) fault) law = by (a == c) where
   by : (own : Bool) → All (IsAnswerWithin board a) (if own then ChannelError ∷ [] else [])
   by true = All-cons (IsAnswerWithin board a) ChannelError [] tt (All-nil (IsAnswerWithin board a))
   by false = All-nil (IsAnswerWithin board a)
 one-answer board a h Advance law = All-nil (IsAnswerWithin board a)
-one-answer board a h AdvanceFailed law = All-nil (IsAnswerWithin board a)
+one-answer board a h (AdvanceFailed fault) law = All-nil (IsAnswerWithin board a)
 one-answer board a h (Sent c) law = All-nil (IsAnswerWithin board a)
 one-answer board a h (Restarted c) law = All-nil (IsAnswerWithin board a)
+one-answer board a h (Reported effect) law = All-nil (IsAnswerWithin board a)
 
 answers_of : (board : Board) (a : ℕ) {h : List Event} → IsValid board → Grown h → All (IsAnswerWithin board a) (answers_to board a h)
 unfolding answers_to fold_with_prefix
@@ -111,9 +113,9 @@ module _ (board : Board) (b : ℕ) (eight : 8 ≤ (channel_of board b).words) wh
   responses-short None = All-nil Fits
   responses-short (Some p) = one-if (p.agent == b && p.wanted) (response_to p.header p.setting) (response-short p.header p.setting)
 
-  failed-short : (failed : Option PendingSet) → All Fits (option_map_or (failed_response_for b) failed [])
-  failed-short None = All-nil Fits
-  failed-short (Some p) = one-if (p.agent == b && p.wanted) (failed_response_to p.header) (omega (arith, eight))
+  failed-short : (fault : Fault) (failed : Option PendingSet) → All Fits (option_map_or (failed_response_for b fault) failed [])
+  failed-short fault None = All-nil Fits
+  failed-short fault (Some p) = one-if (p.agent == b && p.wanted) (failed_response_to p.header fault) (omega (arith, eight))
 
   notices-short : (s : Situation) (change : Option Change) → All Fits (option_map_or (notice_in s) change [])
   notices-short s None = All-nil Fits
@@ -129,8 +131,8 @@ module _ (board : Board) (b : ℕ) (eight : 8 ≤ (channel_of board b).words) wh
       let change = change_in board s.pending deed in
       let responses = option_map_or (response_for b) done [] in
       let load = length s.outbox + length responses + length (sets_by b (pending_next board s.pending deed)) in
-      All-append Fits (option_map_or (failed_response_for b) (failed_in s.pending deed.event) []) (made_in b s (pending_next board s.pending deed) done change)
-      (failed-short (failed_in s.pending deed.event))
+      All-append Fits (option_map_or (failed_response_for b (fault_in deed.event)) (failed_in s.pending deed.event) []) (made_in b s (pending_next board s.pending deed) done change)
+      (failed-short (fault_in deed.event) (failed_in s.pending deed.event))
       (All-append Fits responses (if nat_lt load 16 then option_map_or (notice_in s) change [] else []) (responses-short done)
       (all-if (nat_lt load 16) (option_map_or (notice_in s) change []) (notices-short s change)))
 
@@ -262,25 +264,27 @@ module _ (board : Board) (b : ℕ) (s : Situation) (quiet : IsUnsent b s) where
   first-silent [] all = refl
   first-silent (p ∷ ps) all = ap (λ own. if own && p.wanted then response_to p.header p.setting ∷ [] else []) (All-head (λ q. (q.agent == b) ≡ false) p ps all)
 
-  failed-silent : (ps : List PendingSet) → All (λ p. (p.agent == b) ≡ false) ps → option_map_or (failed_response_for b) (slice_get ps 0) [] ≡ []
-  failed-silent [] all = refl
-  failed-silent (p ∷ ps) all = ap (λ own. if own && p.wanted then failed_response_to p.header ∷ [] else []) (All-head (λ q. (q.agent == b) ≡ false) p ps all)
+  failed-silent : (fault : Fault) (ps : List PendingSet) → All (λ p. (p.agent == b) ≡ false) ps → option_map_or (failed_response_for b fault) (slice_get ps 0) [] ≡ []
+  failed-silent fault [] all = refl
+  failed-silent fault (p ∷ ps) all = ap (λ own. if own && p.wanted then failed_response_to p.header fault ∷ [] else []) (All-head (λ q. (q.agent == b) ≡ false) p ps all)
 
   no-response : (e : Event) → option_map_or (response_for b) (completed_in s.pending e) [] ≡ []
   no-response Advance = first-silent s.pending quiet.pending
-  no-response AdvanceFailed = refl
+  no-response (AdvanceFailed fault) = refl
   no-response (Command a frame) = refl
-  no-response (CommandFailed a frame) = refl
+  no-response (CommandFailed a frame fault) = refl
   no-response (Sent a) = refl
   no-response (Restarted a) = refl
+  no-response (Reported effect) = refl
 
-  no-failure : (e : Event) → option_map_or (failed_response_for b) (failed_in s.pending e) [] ≡ []
-  no-failure AdvanceFailed = failed-silent s.pending quiet.pending
+  no-failure : (e : Event) → option_map_or (failed_response_for b (fault_in e)) (failed_in s.pending e) [] ≡ []
+  no-failure (AdvanceFailed fault) = failed-silent fault s.pending quiet.pending
   no-failure Advance = refl
   no-failure (Command a frame) = refl
-  no-failure (CommandFailed a frame) = refl
+  no-failure (CommandFailed a frame fault) = refl
   no-failure (Sent a) = refl
   no-failure (Restarted a) = refl
+  no-failure (Reported effect) = refl
 
   untold : (x : Bool) (m : Message) → (if x && false then m ∷ [] else []) ≡ []
   untold true m = refl
@@ -362,11 +366,12 @@ module _ (board : Board) (b : ℕ) (one_way : IsOneWay board b) where
       by true = off a m.header (situation_after board a h) (command_of m) d (s.subscribed d) (quiet.subscribed d)
       by false = quiet.subscribed d
     unsubscribed (Command a (Malformed len header)) d = quiet.subscribed d
-    unsubscribed (CommandFailed a (Good m)) d = quiet.subscribed d
-    unsubscribed (CommandFailed a (Malformed len header)) d = quiet.subscribed d
+    unsubscribed (CommandFailed a (Good m) fault) d = quiet.subscribed d
+    unsubscribed (CommandFailed a (Malformed len header) fault) d = quiet.subscribed d
     unsubscribed Advance d = quiet.subscribed d
-    unsubscribed AdvanceFailed d = quiet.subscribed d
+    unsubscribed (AdvanceFailed fault) d = quiet.subscribed d
     unsubscribed (Sent a) d = quiet.subscribed d
+    unsubscribed (Reported effect) d = quiet.subscribed d
     unsubscribed (Restarted a) d = by (a == b) where
       by : (own : Bool) → unwrap_or (option_or (if own then Some false else None) None) (s.subscribed d) ≡ false
       by true = refl
@@ -385,14 +390,15 @@ module _ (board : Board) (b : ℕ) (one_way : IsOneWay board b) where
       by true = others a m.header (situation_after board a h) (command_of m)
       by false = All-nil (λ p. (p.agent == b) ≡ false)
     not-pending (Command a (Malformed len header)) = none-more
-    not-pending (CommandFailed a (Good m)) = none-more
-    not-pending (CommandFailed a (Malformed len header)) = none-more
+    not-pending (CommandFailed a (Good m) fault) = none-more
+    not-pending (CommandFailed a (Malformed len header) fault) = none-more
     not-pending (Sent a) = none-more
+    not-pending (Reported effect) = none-more
     not-pending (Restarted a) =
         subst (All (λ p. (p.agent == b) ≡ false)) (sym (append-nil (map (unwanted a) s.pending)))
         (All-map (λ p. (p.agent == b) ≡ false) (unwanted a) s.pending quiet.pending)
     not-pending Advance = All-drop (λ p. (p.agent == b) ≡ false) 1 s.pending quiet.pending
-    not-pending AdvanceFailed = All-drop (λ p. (p.agent == b) ≡ false) 1 s.pending quiet.pending
+    not-pending (AdvanceFailed fault) = All-drop (λ p. (p.agent == b) ≡ false) 1 s.pending quiet.pending
 
   left-nil : (posted : ℕ) (restarted : Bool) → messages_left posted restarted [] ≡ []
   left-nil zero true = refl

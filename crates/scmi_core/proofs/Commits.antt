@@ -2,7 +2,7 @@
 use Rattle.std.proofs.Common.{◌≡◌, ℕ, ◌-◌, ◌<◌, ◌≤◌, ◌==◌, nat_le, Bool, true, false, not, ◌&&◌, ◌||◌, List, [], ◌∷◌, ◌++◌, length, drop, get_or, option_map, Option, Some, None, IfSome, Result, Ok, Err, unwrap_or, refl, sym, ap, subst, ◌∙◌, if◌then◌else◌}
 use Rattle.std.specs.Int.{bit_at}
 use Rattle.std.specs.Option.{option_and_then, option_or}
-use Rattle.std.proofs.lemmas.Bool.{leb-false}
+use Rattle.std.proofs.lemmas.Bool.{leb-false, or_parts}
 use Rattle.std.proofs.lemmas.List.{append-nil}
 use Rattle.scmi_codec.specs.Header.{HeaderFields}
 use Rattle.scmi_codec.specs.Command.{command_of}
@@ -19,7 +19,8 @@ use Rattle.scmi_codec.specs.declared.power_command.PowerCommand.{PowerCommand}
 use Rattle.scmi_codec.specs.declared.power_command.PowerCommand.TheVariants as power
 use Rattle.scmi_codec.specs.declared.clock_command.ClockCommand.{ClockCommand}
 use Rattle.scmi_codec.specs.declared.clock_command.ClockCommand.TheVariants as clock
-use Rattle.scmi_plan.specs.Board.{Board, domain_at}
+use Rattle.scmi_plan.specs.Board.{Board, domain_at, is_absent}
+use Rattle.scmi_plan.specs.declared.resource.Resource.TheVariants as resource
 use Rattle.scmi_plan.specs.Plan.{IsValid}
 use Rattle.scmi_power.specs.PowerReply.{has_kind, is_state, may_set, no_domain, power_reply}
 use Rattle.scmi_power.specs.PowerTable as power_table
@@ -28,8 +29,8 @@ use Rattle.scmi_clock.specs.ClockReply.{clock_reply, config_checks, disables_kep
 use Rattle.scmi_clock.specs.ClockTable as clock_table
 use Rattle.scmi_clock.specs.ClockTable.{ClockTables, enabled_now, rate_later, rate_now}
 use Rattle.scmi_clock.specs.SetFlags.{is_asynchronous, is_response_wanted}
-use Rattle.scmi_core.specs.declared.effect.Effect.{Effect}
-use Rattle.scmi_core.specs.declared.effect.Effect.TheVariants as effect
+use Rattle.scmi_plan.specs.declared.effect.Effect.{Effect}
+use Rattle.scmi_plan.specs.declared.effect.Effect.TheVariants as effect
 use Rattle.scmi_core.specs.declared.tables.Tables.{Tables}
 use Rattle.scmi_core.specs.Deed.{success_of, success_with}
 use Rattle.scmi_core.specs.Effect.{clock_effect, effect_in, effect_of, effect_read, state_effect}
@@ -58,8 +59,8 @@ passed ((true, status.HardwareError) ∷ checks) ok = absurd (cc)
 passed ((true, status.ProtocolError) ∷ checks) ok = absurd (cc)
 passed ((false, e) ∷ checks) ok = passed checks ok
 
-found : (count d : ℕ) (checks : List Check) → begins_with_success (reply_unless ((nat_le count d, status.NotFound) ∷ checks) (0 ∷ [])) ≡ true → d < count
-found count d checks ok = leb-false count d (by (nat_le count d) ok) where
+found : (count d : ℕ) (absent : Bool) (checks : List Check) → begins_with_success (reply_unless ((nat_le count d || absent, status.NotFound) ∷ checks) (0 ∷ [])) ≡ true → d < count
+found count d absent checks ok = leb-false count d (or_parts _ _ (by (nat_le count d || absent) ok)).0 where
   by : (b : Bool) → begins_with_success (reply_unless ((b, status.NotFound) ∷ checks) (0 ∷ [])) ≡ true → b ≡ false
   by true same = absurd (cc)
   by false same = refl
@@ -192,7 +193,7 @@ module _ (board : Board) (a : ℕ) (header : HeaderFields) (s : Situation) where
         now = e;
         later = none_later {A = ℕ × ℕ} {B = ℕ × ℕ} (bit_0 flags) (domain, state') (d, state) (domain, state') e;
         reply = passed (power_checks flags domain state') ok;
-        known = subst (λ set. set.0 < length board.domains) (at_once {A = ℕ × ℕ} (bit_0 flags) (domain, state') (d, state) e) (found (length board.domains) domain (drop 1 (power_checks flags domain state')) ok);
+        known = subst (λ set. set.0 < length board.domains) (at_once {A = ℕ × ℕ} (bit_0 flags) (domain, state') (d, state) e) (found (length board.domains) domain (is_absent board (resource.Domain domain)) (drop 1 (power_checks flags domain state')) ok);
       }
 
   rate-passed : (command : ClockCommand) (c rate : ℕ) → rate_now board command ≡ Some (c, rate) → begins_with_success (reply_words board a s (Ok (Clock command))) ≡ true → IsRateSet (Ok (Clock command)) c rate
@@ -216,7 +217,7 @@ module _ (board : Board) (a : ℕ) (header : HeaderFields) (s : Situation) where
         reply = passed (rate_checks flags k asked) ok;
         known =
             subst (λ set. set.0 < length board.clocks) (at_once {A = ℕ × ℕ} (is_asynchronous flags) (k, clock_table.set_rate board flags k asked) (c, rate) e)
-            (found (length board.clocks) k (drop 1 (rate_checks flags k asked)) ok);
+            (found (length board.clocks) k (is_absent board (resource.Clock k)) (drop 1 (rate_checks flags k asked)) ok);
       }
 
   config-passed : (command : ClockCommand) (c : ℕ) (enabled : Bool) → enabled_now command ≡ Some (c, enabled) → begins_with_success (reply_words board a s (Ok (Clock command))) ≡ true → IsConfig (Ok (Clock command)) c enabled
@@ -236,7 +237,7 @@ module _ (board : Board) (a : ℕ) (header : HeaderFields) (s : Situation) where
         later = refl;
         other = refl;
         reply = passed (clock_checks k attributes) ok;
-        known = subst (λ set. set.0 < length board.clocks) (at_once {A = ℕ × Bool} false (k, bit_0 attributes) (c, enabled) e) (found (length board.clocks) k (drop 1 (clock_checks k attributes)) ok);
+        known = subst (λ set. set.0 < length board.clocks) (at_once {A = ℕ × Bool} false (k, bit_0 attributes) (c, enabled) e) (found (length board.clocks) k (is_absent board (resource.Clock k)) (drop 1 (clock_checks k attributes)) ok);
       }
 
   pub state-set : (r : Result codec.Command Status) (d state : ℕ) → effect_by r ≡ Some (effect.State d state) → IsStateSet r d state

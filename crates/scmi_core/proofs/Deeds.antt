@@ -8,11 +8,12 @@ use Rattle.scmi_codec.specs.declared.message.Message.{Message}
 use Rattle.scmi_plan.specs.Board.{Board}
 use Rattle.scmi_base.specs.Permission.{is_allowed}
 use Rattle.scmi_core.specs.declared.event.Event.{Event}
+use Rattle.scmi_codec.specs.declared.fault.Fault.{Fault}
 use Rattle.scmi_core.specs.declared.pending_set.PendingSet.{PendingSet}
-use Rattle.scmi_core.specs.declared.event.Event.TheVariants.{Command, Advance, Sent, CommandFailed, AdvanceFailed, Restarted}
+use Rattle.scmi_core.specs.declared.event.Event.TheVariants.{Command, Advance, Sent, CommandFailed, AdvanceFailed, Restarted, Reported}
 use Rattle.std.specs.Option.{option_to_list, option_and_then, option_map_or}
 use Rattle.scmi_core.specs.Deed.{Deed, Success, fold_with_prefix, latest, restarted_by, successes, success_at}
-use Rattle.scmi_core.specs.Value.{Thing, changes, change_by, completed_set, failed_set, value, value_at_start, value_in}
+use Rattle.scmi_core.specs.Value.{Thing, changes, change_by, commanded_by, commanded_changes, completed_set, failed_set, fault_in, value, value_at_start, value_in}
 use Rattle.scmi_plan.specs.declared.scope.Scope.{Scope}
 use Rattle.scmi_core.specs.Permissions.{has_permission, permission_in}
 use Rattle.scmi_core.specs.Subscriptions.{subscription_at, is_subscriber}
@@ -64,6 +65,9 @@ has_permission-push board a d scope h deed =
 
 pub changes-push : (board : Board) (h : List Deed) (deed : Deed) → changes board (h ++ deed ∷ []) ≡ changes board h ++ option_to_list (change_by board h deed)
 changes-push board h deed = fold_with_prefix-push (λ before so_far x. so_far ++ option_to_list (change_by board before x)) [] [] h deed
+
+pub commanded_changes-push : (board : Board) (h : List Deed) (deed : Deed) → commanded_changes board (h ++ deed ∷ []) ≡ commanded_changes board h ++ option_to_list (commanded_by board h deed)
+commanded_changes-push board h deed = fold_with_prefix-push (λ before so_far x. so_far ++ option_to_list (commanded_by board before x)) [] [] h deed
 
 pub value-push : (board : Board) (t : Thing) (h : List Deed) (deed : Deed)
     → value board t (h ++ deed ∷ []) ≡ unwrap_or (option_and_then (value_in t) (change_by board h deed)) (value board t h)
@@ -142,7 +146,7 @@ messages_left-waiting (suc n) true (m ∷ ms) = messages_left-waiting n true ms
 pub made_by-unfailed : (board : Board) (a : ℕ) (h : List Deed) (so_far : List Message) (deed : Deed) → failed_set board h deed.event ≡ None
     → made_by board a h so_far deed ≡ made_in a (situation_with board a so_far h) (pending_sets board (h ++ deed ∷ [])) (completed_set board h deed.event) (change_by board h deed)
 made_by-unfailed board a h so_far deed none =
-    ap (λ failed. option_map_or (failed_response_for a) failed [] ++ made_in a (situation_with board a so_far h) (pending_sets board (h ++ deed ∷ [])) (completed_set board h deed.event) (change_by board h deed)) none
+    ap (λ failed. option_map_or (failed_response_for a (fault_in deed.event)) failed [] ++ made_in a (situation_with board a so_far h) (pending_sets board (h ++ deed ∷ [])) (completed_set board h deed.event) (change_by board h deed)) none
 
 pub advances-push : (h : List Deed) (deed : Deed) → advances (h ++ deed ∷ []) ≡ advances h + (if is_advance deed.event then 1 else 0)
 advances-push h deed = fold-append (λ n e. n + (if is_advance e.event then 1 else 0)) 0 h (deed ∷ [])
@@ -171,14 +175,14 @@ pending_sets-advance board h =
     ∙ ap (drop (advances h + 1)) (accepted_sets-push board h advance ∙ append-nil (accepted_sets board h))
     ∙ sym (drop-drop 1 (advances h) (accepted_sets board h))
 
-abbrev advance_failed : Deed
-advance_failed = record { event = AdvanceFailed; reply = [] }
+abbrev advance_failed : Fault → Deed
+advance_failed fault = record { event = AdvanceFailed fault; reply = [] }
 
 -- and so does one that failed
-pub pending_sets-failed : (board : Board) (h : List Deed) → pending_sets board (h ++ advance_failed ∷ []) ≡ drop 1 (pending_sets board h)
-pending_sets-failed board h =
-    ap (λ n. drop n (accepted_sets board (h ++ advance_failed ∷ []))) (advances-push h advance_failed)
-    ∙ ap (drop (advances h + 1)) (accepted_sets-push board h advance_failed ∙ append-nil (accepted_sets board h))
+pub pending_sets-failed : (board : Board) (h : List Deed) (fault : Fault) → pending_sets board (h ++ advance_failed fault ∷ []) ≡ drop 1 (pending_sets board h)
+pending_sets-failed board h fault =
+    ap (λ n. drop n (accepted_sets board (h ++ advance_failed fault ∷ []))) (advances-push h (advance_failed fault))
+    ∙ ap (drop (advances h + 1)) (accepted_sets-push board h (advance_failed fault) ∙ append-nil (accepted_sets board h))
     ∙ sym (drop-drop 1 (advances h) (accepted_sets board h))
 
 pub sent_count-push : (a : ℕ) (h : List Deed) (deed : Deed) → sent_count a (h ++ deed ∷ []) ≡ sent_count a h + (if is_sent_by a deed.event then 1 else 0)
@@ -217,10 +221,11 @@ take_first (suc n) (z ∷ zs) ys x first = let on : suc n + 1 ≡ suc (n + 1) = 
 sent_only : (a : ℕ) (e : Event) → is_sent_by a e ≡ true → is_restart_of a e ≡ false
 sent_only a (Sent b) own = refl
 sent_only a (Command b frame) own = absurd (cc)
-sent_only a (CommandFailed b frame) own = absurd (cc)
+sent_only a (CommandFailed b frame fault) own = absurd (cc)
 sent_only a Advance own = absurd (cc)
-sent_only a AdvanceFailed own = absurd (cc)
+sent_only a (AdvanceFailed fault) own = absurd (cc)
 sent_only a (Restarted b) own = absurd (cc)
+sent_only a (Reported effect) own = absurd (cc)
 
 -- a Sent of a posts the first message of a's outbox
 pub posted-front : (board : Board) (a : ℕ) (h : List Deed) (deed : Deed) (m : Message) → is_sent_by a deed.event ≡ true → slice_get (outbox_after board a h) 0 ≡ Some m

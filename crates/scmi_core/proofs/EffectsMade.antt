@@ -1,11 +1,12 @@
 -- The effects of one more event, and what hardware is asked for at it.
 use Rattle.std.proofs.Common.{◌≡◌, ◌<◌, ◌==◌, ℕ, Bool, true, false, List, [], ◌∷◌, ◌++◌, length, map, option_map, slice_get, Option, Some, None, Ok, refl, sym, ap, subst, ◌∙◌}
 use Rattle.std.specs.Option.{option_and_then, option_or, option_to_list}
+use Rattle.std.specs.List.{All}
 use Rattle.std.proofs.lemmas.List.{append_assoc, append-nil, map-append}
+use Rattle.std.proofs.lemmas.List.Elements.{All-pop}
 use Rattle.scmi_codec.specs.Header.{HeaderFields}
-use Rattle.scmi_codec.specs.declared.frame.Frame.{Frame}
 use Rattle.scmi_codec.specs.declared.frame.Frame.TheVariants.{Good, Malformed}
-use Rattle.scmi_core.specs.declared.event.Event.TheVariants.{Advance, AdvanceFailed, Command, CommandFailed, Restarted, Sent}
+use Rattle.scmi_core.specs.declared.event.Event.TheVariants.{Advance, AdvanceFailed, Command, CommandFailed, Reported, Restarted, Sent}
 use Rattle.scmi_codec.specs.Payload.{if_success}
 use Rattle.scmi_codec.specs.declared.command.Command.TheVariants.{Power, Clock}
 use Rattle.scmi_codec.specs.declared.power_command.PowerCommand.{PowerCommand}
@@ -13,21 +14,23 @@ use Rattle.scmi_codec.specs.declared.clock_command.ClockCommand.{ClockCommand}
 use Rattle.scmi_plan.specs.Board.{Board}
 use Rattle.scmi_power.specs.PowerTable.{set_now}
 use Rattle.scmi_clock.specs.ClockTable.{rate_now, enabled_now}
-use Rattle.scmi_core.specs.declared.effect.Effect.{Effect}
+use Rattle.scmi_plan.specs.declared.effect.Effect.{Effect}
 use Rattle.scmi_core.specs.declared.event.Event.{Event}
-use Rattle.scmi_core.specs.declared.effect.Effect.TheVariants as effect
+use Rattle.scmi_codec.specs.declared.fault.Fault.{Fault}
+use Rattle.scmi_plan.specs.declared.effect.Effect.TheVariants as effect
 use Rattle.scmi_core.specs.Deed.{fold_with_prefix, restarted_by, success_of}
 use Rattle.scmi_core.specs.Asked.{Asked, IsAsked, Made, Refused, and_asked, made_of}
 use Rattle.scmi_core.specs.Driven.{HappensOn, HappensThere, HasMade, IsDriven, ask_after, asks, asks_from}
 use Rattle.scmi_core.specs.Standing.{Standing}
-use Rattle.scmi_core.specs.Effect.{clock_effect, effect_after, effect_of, effects, state_effect}
+use Rattle.scmi_core.specs.Effect.{clock_effect, commanded_effects, effect_after, effect_of, effects, state_effect}
 use Rattle.scmi_core.specs.History.{deeds, deed_after}
-use Rattle.scmi_core.specs.Value.{Change, bit_value, change_by, change_of, changes, completion}
+use Rattle.scmi_core.specs.Value.{Change, bit_value, change_by, change_of, changes, commanded_by, commanded_changes, completion}
 use Rattle.scmi_core.specs.Legal.{IsLegal}
+use Rattle.scmi_core.specs.Plain.{IsNoReport}
 use Rattle.scmi_core.specs.Pending.{acceptance, is_advance, pending_sets}
 use Rattle.scmi_core.specs.declared.pending_set.PendingSet.{PendingSet}
-use Rattle.scmi_core.proofs.Deeds.{added_success, changes-push, pending_left, pending_sets-push}
-use Rattle.scmi_core.proofs.Legal.{advances_le-accepted, deed-event, deeds-push}
+use Rattle.scmi_core.proofs.Deeds.{added_success, changes-push, commanded_changes-push, pending_left, pending_sets-push}
+use Rattle.scmi_core.proofs.Legal.{Grown, advances_le-accepted, deed-event, deeds-push, empty, grow, grown}
 use Rattle.scmi_core.proofs.Steps.{change-power, state_change}
 use Rattle.scmi_core.proofs.ClockSteps.{change-clock, either}
 
@@ -44,6 +47,33 @@ effects-push board h e =
     ∙ ap (map effect_of) (changes-push board (deeds board h) (deed_after board (deeds board h) e))
     ∙ map-append effect_of (changes board (deeds board h)) (option_to_list change)
     ∙ ap (λ ys. map effect_of (changes board (deeds board h)) ++ ys) (map_one change)
+
+-- the effect of an event that a command asked for, and that the hardware did not report
+commanded_after : Board → List Event → Event → Option Effect
+commanded_after board h e = option_map effect_of (commanded_by board (deeds board h) (deed_after board (deeds board h) e))
+
+-- one more event adds it, if there is one
+commanded-push : (board : Board) (h : List Event) (e : Event) → commanded_effects board (h ++ e ∷ []) ≡ commanded_effects board h ++ option_to_list (commanded_after board h e)
+unfolding commanded_effects commanded_after
+commanded-push board h e =
+    let change = commanded_by board (deeds board h) (deed_after board (deeds board h) e) in
+    ap (λ ds. map effect_of (commanded_changes board ds)) (deeds-push board h e)
+    ∙ ap (map effect_of) (commanded_changes-push board (deeds board h) (deed_after board (deeds board h) e))
+    ∙ map-append effect_of (commanded_changes board (deeds board h)) (option_to_list change)
+    ∙ ap (λ ys. map effect_of (commanded_changes board (deeds board h)) ++ ys) (map_one change)
+
+-- it is the event's effect, but for a report
+commanded-is : (board : Board) (h : List Event) (e : Event) → IsNoReport e → commanded_after board h e ≡ effect_after board h e
+unfolding commanded_after
+commanded-is board h (Command a (Good m)) other = refl
+commanded-is board h (Command a (Malformed len header)) other = refl
+commanded-is board h (CommandFailed a (Good m) fault) other = refl
+commanded-is board h (CommandFailed a (Malformed len header) fault) other = refl
+commanded-is board h Advance other = refl
+commanded-is board h (AdvanceFailed fault) other = refl
+commanded-is board h (Sent a) other = refl
+commanded-is board h (Restarted a) other = refl
+commanded-is board h (Reported effect) other = elim other [ ]
 
 and_asked-append : (asks : List Asked) (ask : Option Asked) → and_asked asks ask ≡ asks ++ option_to_list ask
 and_asked-append asks None = sym (append-nil asks)
@@ -96,56 +126,66 @@ driven-on IsOne p k asked asked' happens same driven =
 made_of-append : (xs ys : List Asked) → made_of (xs ++ ys) ≡ made_of xs ++ made_of ys
 made_of-append [] ys = refl
 made_of-append (Made effect ∷ xs) ys = ap (λ zs. effect ∷ zs) (made_of-append xs ys)
-made_of-append (Refused effect ∷ xs) ys = made_of-append xs ys
+made_of-append (Refused effect fault ∷ xs) ys = made_of-append xs ys
 
 -- a driver that keeps a list of what it made, if it makes one more change, and if it refuses one
 pub makes-one : (effect : Effect) (old new : List Effect) → new ≡ old ++ effect ∷ [] → IsAsked (λ asks. made_of asks ≡ old) (Some (Made effect)) (λ asks. made_of asks ≡ new)
 makes-one effect old new is = λ asks has. made_of-append asks (Made effect ∷ []) ∙ ap (λ ys. ys ++ effect ∷ []) has ∙ sym is
 
-pub refuses-one : (effect : Effect) (old new : List Effect) → new ≡ old → IsAsked (λ asks. made_of asks ≡ old) (Some (Refused effect)) (λ asks. made_of asks ≡ new)
-refuses-one effect old new is = λ asks has. made_of-append asks (Refused effect ∷ []) ∙ append-nil (made_of asks) ∙ has ∙ sym is
-
 made : (o : Option Effect) → made_of (option_to_list (option_map Made o)) ≡ option_to_list o
 made None = refl
 made (Some effect) = refl
 
-refused : (o : Option Effect) → made_of (option_to_list (option_map Refused o)) ≡ []
-refused None = refl
-refused (Some effect) = refl
+refused : (fault : Fault) (o : Option Effect) → made_of (option_to_list (option_map (λ effect. Refused effect fault) o)) ≡ []
+refused fault None = refl
+refused fault (Some effect) = refl
 
--- a command that failed changes nothing
-failed-none : (board : Board) (h : List Event) (a : ℕ) (frame : Frame) → effect_after board h (CommandFailed a frame) ≡ None
-failed-none board h a (Good m) = refl
-failed-none board h a (Malformed len header) = refl
-
--- what is made at an event is what the event changes
-made_after : (board : Board) (h : List Event) (e : Event) → made_of (option_to_list (ask_after board h e)) ≡ option_to_list (effect_after board h e)
-made_after board h (Command a frame) = made (effect_after board h (Command a frame))
+-- what is made at an event is what the event changes, if that was not reported
+made_after : (board : Board) (h : List Event) (e : Event) → made_of (option_to_list (ask_after board h e)) ≡ option_to_list (commanded_after board h e)
+unfolding commanded_after
+made_after board h (Command a (Good m)) = made (effect_after board h (Command a (Good m)))
+made_after board h (Command a (Malformed len header)) = refl
 made_after board h Advance = made (effect_after board h Advance)
 made_after board h (Sent a) = refl
-made_after board h (CommandFailed a frame) = refused (effect_after board h (Command a frame)) ∙ sym (ap option_to_list (failed-none board h a frame))
-made_after board h AdvanceFailed = refused (effect_after board h Advance)
+made_after board h (CommandFailed a (Good m) fault) = refused fault (effect_after board h (Command a (Good m)))
+made_after board h (CommandFailed a (Malformed len header) fault) = refl
+made_after board h (AdvanceFailed fault) = refused fault (effect_after board h Advance)
 made_after board h (Restarted a) = refl
+made_after board h (Reported effect) = refl
 
-made_from : (board : Board) (before h : List Event) → effects board before ++ made_of (asks_from board before h) ≡ effects board (before ++ h)
-made_from board before [] = append-nil (effects board before) ∙ ap (effects board) (sym (append-nil before))
+made_from : (board : Board) (before h : List Event) → commanded_effects board before ++ made_of (asks_from board before h) ≡ commanded_effects board (before ++ h)
+made_from board before [] = append-nil (commanded_effects board before) ∙ ap (commanded_effects board) (sym (append-nil before))
 made_from board before (e ∷ h) =
     let ask = option_to_list (ask_after board before e) in
     let rest = asks_from board (before ++ e ∷ []) h in
-    ap (λ ys. effects board before ++ ys) (made_of-append ask rest ∙ ap (λ ys. ys ++ made_of rest) (made_after board before e))
-    ∙ sym (append_assoc (effects board before) (option_to_list (effect_after board before e)) (made_of rest))
-    ∙ ap (λ ys. ys ++ made_of rest) (sym (effects-push board before e))
+    ap (λ ys. commanded_effects board before ++ ys) (made_of-append ask rest ∙ ap (λ ys. ys ++ made_of rest) (made_after board before e))
+    ∙ sym (append_assoc (commanded_effects board before) (option_to_list (commanded_after board before e)) (made_of rest))
+    ∙ ap (λ ys. ys ++ made_of rest) (sym (commanded-push board before e))
     ∙ made_from board (before ++ e ∷ []) h
-    ∙ ap (effects board) (append_assoc before (e ∷ []) h)
+    ∙ ap (commanded_effects board) (append_assoc before (e ∷ []) h)
 
-none_at_start : (board : Board) → effects board [] ≡ []
-unfolding effects deeds fold_with_prefix
+none_at_start : (board : Board) → commanded_effects board [] ≡ []
+unfolding commanded_effects deeds fold_with_prefix
 none_at_start board = refl
 
--- what hardware has made in a history is what the history changes
-pub made-effects : (board : Board) (h : List Event) → made_of (asks board h) ≡ effects board h
+-- what hardware has made in a history is what the history changes, but for what was reported
+pub made-effects : (board : Board) (h : List Event) → made_of (asks board h) ≡ commanded_effects board h
 unfolding asks
 made-effects board h = ap (λ xs. xs ++ made_of (asks_from board [] h)) (sym (none_at_start board)) ∙ made_from board [] h
+
+unreported_of : (board : Board) {h : List Event} → Grown h → All IsNoReport h → commanded_effects board h ≡ effects board h
+unfolding commanded_effects effects deeds fold_with_prefix
+unreported_of board empty all = refl
+unreported_of board (grow {xs} g e) all =
+    let two = All-pop IsNoReport (xs ++ e ∷ []) xs (Some e) refl all in
+    commanded-push board xs e
+    ∙ ap (λ ys. ys ++ option_to_list (commanded_after board xs e)) (unreported_of board g two.0)
+    ∙ ap (λ one. effects board xs ++ option_to_list one) (commanded-is board xs e two.1)
+    ∙ sym (effects-push board xs e)
+
+-- and without a report that is all
+pub unreported : (board : Board) (h : List Event) → All IsNoReport h → commanded_effects board h ≡ effects board h
+unreported board h all = unreported_of board (grown h) all
 
 -- what a command of each protocol changes
 pub power-effect : (board : Board) (a : ℕ) (header : HeaderFields) (c : PowerCommand) (reply : List ℕ)

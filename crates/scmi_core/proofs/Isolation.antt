@@ -11,7 +11,8 @@ use Rattle.scmi_codec.specs.declared.frame.Frame.{Frame}
 use Rattle.scmi_codec.specs.declared.frame.Frame.TheVariants.{Good, Malformed}
 use Rattle.scmi_plan.specs.Board.{Board}
 use Rattle.scmi_core.specs.declared.event.Event.{Event}
-use Rattle.scmi_core.specs.declared.event.Event.TheVariants.{Command, Advance, Sent, CommandFailed, AdvanceFailed, Restarted}
+use Rattle.scmi_codec.specs.declared.fault.Fault.{Fault}
+use Rattle.scmi_core.specs.declared.event.Event.TheVariants.{Command, Advance, Sent, CommandFailed, AdvanceFailed, Restarted, Reported}
 use Rattle.scmi_core.specs.declared.pending_set.PendingSet.{PendingSet}
 use Rattle.scmi_core.specs.Agents.{answer_for, answers_to, frame_from, frames_of}
 use Rattle.scmi_core.specs.Deed.{Deed, fold_with_prefix, restarted_by, success_with}
@@ -25,7 +26,7 @@ use Rattle.scmi_core.specs.Permissions.{permission_in}
 use Rattle.scmi_core.specs.Reply.{answer_in}
 use Rattle.scmi_core.specs.Situation.{Situation}
 use Rattle.scmi_core.specs.Subscriptions.{subscription, subscription_after_reset}
-use Rattle.scmi_core.specs.Value.{change_by, change_of, changes, value_in}
+use Rattle.scmi_core.specs.Value.{change_by, change_of, changes, fault_in, reported, value_in}
 use Rattle.scmi_core.proofs.Deeds.{IsLegal-push, added_success, changes-push, fold_with_prefix-push, pending_left, sent_count-push}
 use Rattle.scmi_core.proofs.Following.{change-is, change_in, completed_in, deed-same, failed_in, made_next, messages-next, next, pending_next, situation-next}
 use Rattle.scmi_core.proofs.Laws.{answers_failed_other, answers_other, frames_failed_other, frames_other}
@@ -34,7 +35,7 @@ use Rattle.scmi_core.proofs.Situations.{nothing-made}
 
 -- A COMMAND THAT WAS REFUSED
 
--- a deed that succeeds in nothing, ends no set, posts nothing and restarts no agent
+-- a deed that succeeds in nothing, ends no set, posts nothing, restarts no agent and reports no change
 record IsIdleDeed (deed : Deed) : Type 0 where
   pub no_success : added_success deed ≡ None
   pub stays : is_advance deed.event ≡ false
@@ -42,11 +43,14 @@ record IsIdleDeed (deed : Deed) : Type 0 where
   pub uncompleted : (pending : List PendingSet) → completed_in pending deed.event ≡ None
   pub unfailed : (pending : List PendingSet) → failed_in pending deed.event ≡ None
   pub unrestarted : restarted_by deed.event ≡ None
+  pub unreported : reported deed.event ≡ None
 
 -- it changes nothing, and makes nothing for an agent
 module _ (board : Board) (b : ℕ) (s : Situation) (deed : Deed) (idle : IsIdleDeed deed) where
   no-change : change_in board s.pending deed ≡ None
-  no-change = ap (λ success. change_of board success (completed_in s.pending deed.event)) idle.no_success ∙ ap (change_of board None) (idle.uncompleted s.pending)
+  no-change =
+      ap (λ said. option_or said (change_of board (added_success deed) (completed_in s.pending deed.event))) idle.unreported
+      ∙ ap (λ success. change_of board success (completed_in s.pending deed.event)) idle.no_success ∙ ap (change_of board None) (idle.uncompleted s.pending)
 
   same-pending : pending_next board s.pending deed ≡ s.pending
   same-pending =
@@ -57,7 +61,7 @@ module _ (board : Board) (b : ℕ) (s : Situation) (deed : Deed) (idle : IsIdleD
 
   nothing-next : made_next board b s deed ≡ []
   nothing-next =
-      ap (λ failed. option_map_or (failed_response_for b) failed [] ++ made_in b s (pending_next board s.pending deed) (completed_in s.pending deed.event) (change_in board s.pending deed)) (idle.unfailed s.pending)
+      ap (λ failed. option_map_or (failed_response_for b (fault_in deed.event)) failed [] ++ made_in b s (pending_next board s.pending deed) (completed_in s.pending deed.event) (change_in board s.pending deed)) (idle.unfailed s.pending)
       ∙ ap (made_in b s (pending_next board s.pending deed) (completed_in s.pending deed.event)) no-change
       ∙ ap (λ done. made_in b s (pending_next board s.pending deed) done None) (idle.uncompleted s.pending)
       ∙ nothing-made b s (pending_next board s.pending deed)
@@ -138,12 +142,13 @@ command-idle board h c (Good m) fails = record {
   uncompleted = λ pending. refl;
   unfailed = λ pending. refl;
   unrestarted = refl;
+  unreported = refl;
 }
-command-idle board h c (Malformed len header) fails = record { no_success = refl; stays = refl; unsent = λ b. refl; uncompleted = λ pending. refl; unfailed = λ pending. refl; unrestarted = refl }
+command-idle board h c (Malformed len header) fails = record { no_success = refl; stays = refl; unsent = λ b. refl; uncompleted = λ pending. refl; unfailed = λ pending. refl; unrestarted = refl; unreported = refl }
 
-failed-idle : (board : Board) (h : List Event) (c : ℕ) (frame : Frame) → IsIdleDeed (deed_after board (deeds board h) (CommandFailed c frame))
-failed-idle board h c (Good m) = record { no_success = refl; stays = refl; unsent = λ b. refl; uncompleted = λ pending. refl; unfailed = λ pending. refl; unrestarted = refl }
-failed-idle board h c (Malformed len header) = record { no_success = refl; stays = refl; unsent = λ b. refl; uncompleted = λ pending. refl; unfailed = λ pending. refl; unrestarted = refl }
+failed-idle : (board : Board) (h : List Event) (c : ℕ) (frame : Frame) (fault : Fault) → IsIdleDeed (deed_after board (deeds board h) (CommandFailed c frame fault))
+failed-idle board h c (Good m) fault = record { no_success = refl; stays = refl; unsent = λ b. refl; uncompleted = λ pending. refl; unfailed = λ pending. refl; unrestarted = refl; unreported = refl }
+failed-idle board h c (Malformed len header) fault = record { no_success = refl; stays = refl; unsent = λ b. refl; uncompleted = λ pending. refl; unfailed = λ pending. refl; unrestarted = refl; unreported = refl }
 
 refusal : (board : Board) (a : ℕ) (h : List Event) (e : Event) → is_refused board a h e ≡ true → Refused board a h e
 refusal board a h (Command c frame) is =
@@ -154,18 +159,19 @@ refusal board a h (Command c frame) is =
       frames = λ b other. frames_other b c h frame (subst (λ x. b ≢ x) same other);
       answers = λ b other. answers_other board b c h frame (subst (λ x. b ≢ x) same other);
     }
-refusal board a h (CommandFailed c frame) is =
+refusal board a h (CommandFailed c frame fault) is =
     let two = own_true (a == c) _ frame is in
     let same = eqb-true a c two.0 in
     record {
-      idle = failed-idle board h c frame;
-      frames = λ b other. frames_failed_other b c h frame (subst (λ x. b ≢ x) same other);
-      answers = λ b other. answers_failed_other board b c h frame (subst (λ x. b ≢ x) same other);
+      idle = failed-idle board h c frame fault;
+      frames = λ b other. frames_failed_other b c h frame fault (subst (λ x. b ≢ x) same other);
+      answers = λ b other. answers_failed_other board b c h frame fault (subst (λ x. b ≢ x) same other);
     }
 refusal board a h Advance is = absurd (cc)
-refusal board a h AdvanceFailed is = absurd (cc)
+refusal board a h (AdvanceFailed fault) is = absurd (cc)
 refusal board a h (Sent c) is = absurd (cc)
 refusal board a h (Restarted c) is = absurd (cc)
+refusal board a h (Reported effect) is = absurd (cc)
 
 -- THE SAME EVENT AFTER TWO HISTORIES
 
@@ -192,19 +198,21 @@ module _ (board : Board) (h k : List Event) (same : (c : ℕ) → situation_afte
 
   one-answer : (b : ℕ) (e : Event) → answer_for board b h e ≡ answer_for board b k e
   one-answer b (Command c frame) = ap (λ s. if b == c then answer_in board c frame s ∷ [] else []) (same c)
-  one-answer b (CommandFailed c frame) = refl
+  one-answer b (CommandFailed c frame fault) = refl
   one-answer b Advance = refl
-  one-answer b AdvanceFailed = refl
+  one-answer b (AdvanceFailed fault) = refl
   one-answer b (Sent c) = refl
   one-answer b (Restarted c) = refl
+  one-answer b (Reported effect) = refl
 
   both-follow : (e : Event) → CanFollow board k e → CanFollow board h e
   unfolding outbox
   both-follow (Command c frame) follows = follows
-  both-follow (CommandFailed c frame) follows = (follows.0, subst (λ change. option_map effect_of change ≢ None) (sym (one-change (Command c frame))) follows.1)
+  both-follow (CommandFailed c frame fault) follows = (follows.0, subst (λ change. option_map effect_of change ≢ None) (sym (one-change (Command c frame))) follows.1)
   both-follow (Restarted c) follows = follows
+  both-follow (Reported effect) follows = follows
   both-follow Advance follows = subst (λ pending. 0 < length pending) (sym one-pending) follows
-  both-follow AdvanceFailed follows = subst (λ pending. 0 < length pending) (sym one-pending) follows
+  both-follow (AdvanceFailed fault) follows = subst (λ pending. 0 < length pending) (sym one-pending) follows
   both-follow (Sent c) follows = (follows.0, follows.1, subst (λ s. 0 < length s.outbox) (sym (same c)) follows.2)
 
 pub answers-push : (board : Board) (b : ℕ) (h : List Event) (e : Event) → answers_to board b (h ++ e ∷ []) ≡ answers_to board b h ++ answer_for board b h e

@@ -7,8 +7,10 @@ use Rattle.std.proofs.lemmas.Bool.{eq-eqb, ne_eqb}
 use Rattle.scmi_codec.specs.declared.message.Message.{Message}
 use Rattle.scmi_codec.specs.declared.frame.Frame.{Frame}
 use Rattle.scmi_plan.specs.Board.{Board}
+use Rattle.scmi_plan.specs.declared.effect.Effect.{Effect}
 use Rattle.scmi_core.specs.declared.event.Event.{Event}
-use Rattle.scmi_core.specs.declared.event.Event.TheVariants.{Command, Advance, Sent, CommandFailed, AdvanceFailed, Restarted}
+use Rattle.scmi_codec.specs.declared.fault.Fault.{Fault}
+use Rattle.scmi_core.specs.declared.event.Event.TheVariants.{Command, Advance, Sent, CommandFailed, AdvanceFailed, Restarted, Reported}
 use Rattle.scmi_core.specs.Deed.{fold_with_prefix}
 use Rattle.scmi_core.specs.Outbox.{messages_made, sent_count, is_sent_by}
 use Rattle.scmi_core.specs.History.{answer_to, deeds, deed_after, made_for, delivered_messages, outbox}
@@ -50,58 +52,62 @@ answers_other board b a h f differ =
     ∙ append-nil (answers_to board b h)
 
 -- the same of a command that failed
-pub frames_failed_own : (a : ℕ) (h : List Event) (f : Frame) → frames_of a (h ++ CommandFailed a f ∷ []) ≡ frames_of a h ++ f ∷ []
+pub frames_failed_own : (a : ℕ) (h : List Event) (f : Frame) (fault : Fault) → frames_of a (h ++ CommandFailed a f fault ∷ []) ≡ frames_of a h ++ f ∷ []
 unfolding frames_of
-frames_failed_own a h f =
-    filter_map-append (frame_from a) h (CommandFailed a f ∷ [])
+frames_failed_own a h f fault =
+    filter_map-append (frame_from a) h (CommandFailed a f fault ∷ [])
     ∙ ap (λ same. filter_map (frame_from a) h ++ cons_option (if same then Some f else None) []) (eq-eqb a a refl)
 
-pub frames_failed_other : (b a : ℕ) (h : List Event) (f : Frame) → b ≢ a → frames_of b (h ++ CommandFailed a f ∷ []) ≡ frames_of b h
+pub frames_failed_other : (b a : ℕ) (h : List Event) (f : Frame) (fault : Fault) → b ≢ a → frames_of b (h ++ CommandFailed a f fault ∷ []) ≡ frames_of b h
 unfolding frames_of
-frames_failed_other b a h f differ =
-    filter_map-append (frame_from b) h (CommandFailed a f ∷ [])
+frames_failed_other b a h f fault differ =
+    filter_map-append (frame_from b) h (CommandFailed a f fault ∷ [])
     ∙ ap (λ same. filter_map (frame_from b) h ++ cons_option (if same then Some f else None) []) (ne_eqb b a differ)
     ∙ append-nil (filter_map (frame_from b) h)
 
-pub answers_failed_own : (board : Board) (a : ℕ) (h : List Event) (f : Frame) → answers_to board a (h ++ CommandFailed a f ∷ []) ≡ answers_to board a h ++ failed_answer f ∷ []
+pub answers_failed_own : (board : Board) (a : ℕ) (h : List Event) (f : Frame) (fault : Fault) → answers_to board a (h ++ CommandFailed a f fault ∷ []) ≡ answers_to board a h ++ failed_answer f fault ∷ []
 unfolding answers_to
-answers_failed_own board a h f =
-    fold_with_prefix-push (λ before so_far event. so_far ++ answer_for board a before event) [] [] h (CommandFailed a f)
-    ∙ ap (λ same. answers_to board a h ++ (if same then failed_answer f ∷ [] else [])) (eq-eqb a a refl)
+answers_failed_own board a h f fault =
+    fold_with_prefix-push (λ before so_far event. so_far ++ answer_for board a before event) [] [] h (CommandFailed a f fault)
+    ∙ ap (λ same. answers_to board a h ++ (if same then failed_answer f fault ∷ [] else [])) (eq-eqb a a refl)
 
-pub answers_failed_other : (board : Board) (b a : ℕ) (h : List Event) (f : Frame) → b ≢ a → answers_to board b (h ++ CommandFailed a f ∷ []) ≡ answers_to board b h
+pub answers_failed_other : (board : Board) (b a : ℕ) (h : List Event) (f : Frame) (fault : Fault) → b ≢ a → answers_to board b (h ++ CommandFailed a f fault ∷ []) ≡ answers_to board b h
 unfolding answers_to
-answers_failed_other board b a h f differ =
-    fold_with_prefix-push (λ before so_far event. so_far ++ answer_for board b before event) [] [] h (CommandFailed a f)
-    ∙ ap (λ same. answers_to board b h ++ (if same then failed_answer f ∷ [] else [])) (ne_eqb b a differ)
+answers_failed_other board b a h f fault differ =
+    fold_with_prefix-push (λ before so_far event. so_far ++ answer_for board b before event) [] [] h (CommandFailed a f fault)
+    ∙ ap (λ same. answers_to board b h ++ (if same then failed_answer f fault ∷ [] else [])) (ne_eqb b a differ)
     ∙ append-nil (answers_to board b h)
 
 -- an event that is no command
 pub data IsQuiet : Event → Type 0 where
   advance : IsQuiet Advance
-  advance_failed : IsQuiet AdvanceFailed
+  advance_failed : (fault : Fault) → IsQuiet (AdvanceFailed fault)
   sent_to : (b : ℕ) → IsQuiet (Sent b)
   restarted : (b : ℕ) → IsQuiet (Restarted b)
+  reported : (effect : Effect) → IsQuiet (Reported effect)
 
 -- an event that is no command adds no frame
 pub frames_quiet : (a : ℕ) (h : List Event) (e : Event) → IsQuiet e → frames_of a (h ++ e ∷ []) ≡ frames_of a h
 unfolding frames_of
 frames_quiet a h e advance = filter_map-append (frame_from a) h (Advance ∷ []) ∙ append-nil (filter_map (frame_from a) h)
-frames_quiet a h e advance_failed = filter_map-append (frame_from a) h (AdvanceFailed ∷ []) ∙ append-nil (filter_map (frame_from a) h)
+frames_quiet a h e (advance_failed fault) = filter_map-append (frame_from a) h (AdvanceFailed fault ∷ []) ∙ append-nil (filter_map (frame_from a) h)
 frames_quiet a h e (sent_to b) = filter_map-append (frame_from a) h (Sent b ∷ []) ∙ append-nil (filter_map (frame_from a) h)
 frames_quiet a h e (restarted b) = filter_map-append (frame_from a) h (Restarted b ∷ []) ∙ append-nil (filter_map (frame_from a) h)
+frames_quiet a h e (reported effect) = filter_map-append (frame_from a) h (Reported effect ∷ []) ∙ append-nil (filter_map (frame_from a) h)
 
 -- and no answer
 pub answers_quiet : (board : Board) (a : ℕ) (h : List Event) (e : Event) → IsQuiet e → answers_to board a (h ++ e ∷ []) ≡ answers_to board a h
 unfolding answers_to
 answers_quiet board a h e advance =
     fold_with_prefix-push (λ before so_far event. so_far ++ answer_for board a before event) [] [] h Advance ∙ append-nil (answers_to board a h)
-answers_quiet board a h e advance_failed =
-    fold_with_prefix-push (λ before so_far event. so_far ++ answer_for board a before event) [] [] h AdvanceFailed ∙ append-nil (answers_to board a h)
+answers_quiet board a h e (advance_failed fault) =
+    fold_with_prefix-push (λ before so_far event. so_far ++ answer_for board a before event) [] [] h (AdvanceFailed fault) ∙ append-nil (answers_to board a h)
 answers_quiet board a h e (sent_to b) =
     fold_with_prefix-push (λ before so_far event. so_far ++ answer_for board a before event) [] [] h (Sent b) ∙ append-nil (answers_to board a h)
 answers_quiet board a h e (restarted b) =
     fold_with_prefix-push (λ before so_far event. so_far ++ answer_for board a before event) [] [] h (Restarted b) ∙ append-nil (answers_to board a h)
+answers_quiet board a h e (reported effect) =
+    fold_with_prefix-push (λ before so_far event. so_far ++ answer_for board a before event) [] [] h (Reported effect) ∙ append-nil (answers_to board a h)
 
 -- an agent has as many answers as frames
 pub as_many : (board : Board) (a : ℕ) (h : List Event) → length (answers_to board a h) ≡ length (frames_of a h)

@@ -6,7 +6,7 @@ use Rattle.std.proofs.lemmas.Bool.{cases_Bool, eqb-true}
 use Rattle.scmi_plan.specs.Board.{Board}
 use Rattle.scmi_codec.specs.declared.frame.Frame.TheVariants.{Good, Malformed}
 use Rattle.scmi_core.specs.declared.event.Event.{Event}
-use Rattle.scmi_core.specs.declared.event.Event.TheVariants.{Command, Advance, Sent, CommandFailed, AdvanceFailed, Restarted}
+use Rattle.scmi_core.specs.declared.event.Event.TheVariants.{Command, Advance, Sent, CommandFailed, AdvanceFailed, Restarted, Reported}
 use Rattle.std.specs.Option.{option_to_list, option_and_then}
 use Rattle.scmi_core.specs.Deed.{Deed}
 use Rattle.scmi_core.specs.Pending.{accepted_sets, advances, is_advance, pending_sets, acceptance, sets_left}
@@ -38,10 +38,11 @@ deed-event board h (Command a (Good m)) = refl
 deed-event board h (Command a (Malformed len header)) = refl
 deed-event board h Advance = refl
 deed-event board h (Sent a) = refl
-deed-event board h (CommandFailed a (Good m)) = refl
-deed-event board h (CommandFailed a (Malformed len header)) = refl
-deed-event board h AdvanceFailed = refl
+deed-event board h (CommandFailed a (Good m) fault) = refl
+deed-event board h (CommandFailed a (Malformed len header) fault) = refl
+deed-event board h (AdvanceFailed fault) = refl
 deed-event board h (Restarted a) = refl
+deed-event board h (Reported effect) = refl
 
 -- no event is in the empty history
 pub IsLegal-nil : (board : Board) → IsLegal board []
@@ -72,22 +73,25 @@ one_more board h (Sent a) enough waits =
 one_more board h (Restarted a) enough waits =
     let left = sets_left (advances h) (Some a) (accepted_sets board h) in
     rw (advances-push, accepted_sets-push) (omega (arith, length-append left [], sets_left-length (advances h) (Some a) (accepted_sets board h)))
+one_more board h (Reported effect) enough waits =
+    rw (advances-push, accepted_sets-push) (omega (arith, length-append (accepted_sets board h) []))
 one_more board h Advance enough waits =
     rw (advances-push, accepted_sets-push) (omega (arith, length-append (accepted_sets board h) [], waits refl, length-drop (advances h) (accepted_sets board h)))
-one_more board h (CommandFailed a (Good m)) enough waits =
+one_more board h (CommandFailed a (Good m) fault) enough waits =
     rw (advances-push, accepted_sets-push) (omega (arith, length-append (accepted_sets board h) []))
-one_more board h (CommandFailed a (Malformed len header)) enough waits =
+one_more board h (CommandFailed a (Malformed len header) fault) enough waits =
     rw (advances-push, accepted_sets-push) (omega (arith, length-append (accepted_sets board h) []))
-one_more board h AdvanceFailed enough waits =
+one_more board h (AdvanceFailed fault) enough waits =
     rw (advances-push, accepted_sets-push) (omega (arith, length-append (accepted_sets board h) [], waits refl, length-drop (advances h) (accepted_sets board h)))
 
 waits_at : (board : Board) (h : List Event) (e : Event) → CanFollow board h e → is_advance e ≡ true → 0 < length (pending_sets board (deeds board h))
 waits_at board h Advance follows is = follows
-waits_at board h AdvanceFailed follows is = follows
+waits_at board h (AdvanceFailed fault) follows is = follows
 waits_at board h (Command a frame) follows is = absurd (cc)
-waits_at board h (CommandFailed a frame) follows is = absurd (cc)
+waits_at board h (CommandFailed a frame fault) follows is = absurd (cc)
 waits_at board h (Sent a) follows is = absurd (cc)
 waits_at board h (Restarted a) follows is = absurd (cc)
+waits_at board h (Reported effect) follows is = absurd (cc)
 
 enough_of : (board : Board) {h : List Event} → Grown h → IsLegal board h → advances (deeds board h) ≤ length (accepted_sets board (deeds board h))
 unfolding deeds
@@ -108,12 +112,14 @@ sent_more board a h (Command b (Malformed len header)) enough waits =
     rw (sent_count-push, messages_made-push) (omega (arith, length-append (messages_made board a h) (made_by board a h (messages_made board a h) (deed_after board h (Command b (Malformed len header))))))
 sent_more board a h Advance enough waits =
     rw (sent_count-push, messages_made-push) (omega (arith, length-append (messages_made board a h) (made_by board a h (messages_made board a h) (deed_after board h Advance))))
-sent_more board a h (CommandFailed b (Good m)) enough waits =
-    rw (sent_count-push, messages_made-push) (omega (arith, length-append (messages_made board a h) (made_by board a h (messages_made board a h) (deed_after board h (CommandFailed b (Good m))))))
-sent_more board a h (CommandFailed b (Malformed len header)) enough waits =
-    rw (sent_count-push, messages_made-push) (omega (arith, length-append (messages_made board a h) (made_by board a h (messages_made board a h) (deed_after board h (CommandFailed b (Malformed len header))))))
-sent_more board a h AdvanceFailed enough waits =
-    rw (sent_count-push, messages_made-push) (omega (arith, length-append (messages_made board a h) (made_by board a h (messages_made board a h) (deed_after board h AdvanceFailed))))
+sent_more board a h (CommandFailed b (Good m) fault) enough waits =
+    rw (sent_count-push, messages_made-push) (omega (arith, length-append (messages_made board a h) (made_by board a h (messages_made board a h) (deed_after board h (CommandFailed b (Good m) fault)))))
+sent_more board a h (CommandFailed b (Malformed len header) fault) enough waits =
+    rw (sent_count-push, messages_made-push) (omega (arith, length-append (messages_made board a h) (made_by board a h (messages_made board a h) (deed_after board h (CommandFailed b (Malformed len header) fault)))))
+sent_more board a h (AdvanceFailed fault) enough waits =
+    rw (sent_count-push, messages_made-push) (omega (arith, length-append (messages_made board a h) (made_by board a h (messages_made board a h) (deed_after board h (AdvanceFailed fault)))))
+sent_more board a h (Reported effect) enough waits =
+    rw (sent_count-push, messages_made-push) (omega (arith, length-append (messages_made board a h) (made_by board a h (messages_made board a h) (deed_after board h (Reported effect)))))
 sent_more board a h (Restarted b) enough waits =
     let left = messages_left (sent_count a h) (a == b) (messages_made board a h) in
     rw (sent_count-push, messages_made-push)
@@ -128,9 +134,10 @@ unfolding outbox
 front_at board a h (Sent b) follows is = subst (λ x. 0 < length (outbox_after board x (deeds board h))) (sym (eqb-true a b is)) follows.2
 front_at board a h (Command b frame) follows is = absurd (cc)
 front_at board a h Advance follows is = absurd (cc)
-front_at board a h (CommandFailed b frame) follows is = absurd (cc)
-front_at board a h AdvanceFailed follows is = absurd (cc)
+front_at board a h (CommandFailed b frame fault) follows is = absurd (cc)
+front_at board a h (AdvanceFailed fault) follows is = absurd (cc)
 front_at board a h (Restarted b) follows is = absurd (cc)
+front_at board a h (Reported effect) follows is = absurd (cc)
 
 sent_of : (board : Board) (a : ℕ) {h : List Event} → Grown h → IsLegal board h → sent_count a (deeds board h) ≤ length (messages_made board a (deeds board h))
 unfolding deeds

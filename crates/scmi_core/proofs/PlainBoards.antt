@@ -1,22 +1,22 @@
 -- A board that keeps nothing, denies nothing and shares nothing out gives what it gives if no board says such things.
-use Rattle.std.proofs.Common.{◌≡◌, ◌⊎◌, inl, inr, ℕ, suc, ◌+◌, ◌-◌, ◌<◌, ◌==◌, ◌&&◌, ◌≤◌, nat_lt, Bool, true, false, not, if◌then◌else◌, List, [], ◌∷◌, length, Some, None, refl, ap, ◌∙◌, arith}
+use Rattle.std.proofs.Common.{◌≡◌, ◌⊎◌, inl, inr, ℕ, suc, ◌+◌, ◌-◌, ◌<◌, ◌==◌, ◌&&◌, ◌||◌, ◌≤◌, nat_le, nat_lt, Bool, true, false, not, if◌then◌else◌, List, [], ◌∷◌, length, Some, None, refl, ap, ◌∙◌, arith}
 use Rattle.std.specs.Int.{bit_at}
 use Rattle.std.specs.List.{filter}
 use Rattle.std.proofs.lemmas.Bool.Decides.{leb_tells, nat_tests}
 use Rattle.std.proofs.lemmas.List.Filters.{length-filter_both}
 use Rattle.std.proofs.lemmas.Nat.Bits.{bit_at-zero}
 use Rattle.scmi_codec.specs.Reply.{bit_0, reply_unless}
-use Rattle.scmi_plan.specs.Board.{Board, holds, nothing_denied}
+use Rattle.scmi_plan.specs.Board.{Board, clock_at, holds, nothing_denied}
 use Rattle.scmi_plan.specs.declared.resource.Resource.TheVariants as resource
 use Rattle.scmi_plan.specs.declared.scope.Scope.{Scope}
 use Rattle.scmi_plan.specs.declared.scope.Scope.TheVariants as scope
 use Rattle.scmi_base.proofs.Masks.{no_bits}
 use Rattle.scmi_base.specs.Permission.{is_allowed}
 use Rattle.scmi_power.specs.PowerReply.{PowerView, may_set, power_reply, set_reply, state_off}
-use Rattle.scmi_clock.specs.ClockReply.{ClockView, clock_reply, config_checks}
+use Rattle.scmi_clock.specs.ClockReply.{ClockView, clock_reply, config_checks, rate_if, rounded_rate}
 use Rattle.scmi_core.specs.Deed.{fold_with_prefix}
 use Rattle.scmi_core.specs.Pending.{sets_by}
-use Rattle.scmi_core.specs.PlainBoards.{AllowsAll, ConfiguresByPermission, ResetsToAll, SetsByPermission, SharesAll}
+use Rattle.scmi_core.specs.PlainBoards.{AllowsAll, ConfiguresByPermission, FindsClocks, FindsDomains, ResetsToAll, Rounds, SetsByPermission, SharesAll}
 use Rattle.scmi_core.specs.declared.pending_set.PendingSet.{PendingSet}
 
 -- where nothing is denied each agent is allowed everything
@@ -56,6 +56,24 @@ configures board v c attributes = λ none.
     ap (λ may. reply_unless (config_checks board may c attributes) (0 ∷ []))
     (ap (λ kept. v.may c && not (holds kept (resource.Clock c) && not (bit_0 attributes))) none
     ∙ alone (v.may c) (λ mask. bit_at mask c == 1) (not (bit_0 attributes)) (no_bit c))
+
+-- what is absent from nothing adds nothing
+there : (lacks : Bool) (bit : Bool) → bit ≡ false → (lacks || bit) ≡ lacks
+there true bit none = refl
+there false bit none = none
+
+pub finds_domains : (board : Board) (d : ℕ) → FindsDomains board d
+finds_domains board d = λ none. there (nat_le (length board.domains) d) _
+    (ap (λ absent. holds absent (resource.Domain d)) none ∙ no_bit d)
+
+pub finds_clocks : (board : Board) (c : ℕ) → FindsClocks board c
+finds_clocks board c = λ none. there (nat_le (length board.clocks) c) _
+    (ap (λ absent. holds absent (resource.Clock c)) none ∙ no_bit c)
+
+pub rounds : (board : Board) (c flags asked : ℕ) → Rounds board c flags asked
+rounds board c flags asked = λ none.
+    ap (λ free. rate_if free asked (rounded_rate (clock_at board c).rates flags asked))
+    (ap (λ mask. bit_at mask c == 1) none ∙ no_bit c)
 
 -- of fewer than 8 sets an agent has fewer than 8
 pub shares : (waiting a : ℕ) (sets : List PendingSet) → SharesAll waiting a sets

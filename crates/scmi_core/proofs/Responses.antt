@@ -10,10 +10,11 @@ use Rattle.scmi_codec.specs.declared.frame.Frame.TheVariants.{Good, Malformed}
 use Rattle.scmi_plan.specs.Board.{Board}
 use Rattle.scmi_core.specs.declared.pending_set.PendingSet.{PendingSet}
 use Rattle.scmi_core.specs.declared.event.Event.{Event}
-use Rattle.scmi_core.specs.declared.event.Event.TheVariants.{Command, Advance, Sent, CommandFailed, AdvanceFailed, Restarted}
+use Rattle.scmi_codec.specs.declared.fault.Fault.{Fault}
+use Rattle.scmi_core.specs.declared.event.Event.TheVariants.{Command, Advance, Sent, CommandFailed, AdvanceFailed, Restarted, Reported}
 use Rattle.std.specs.Option.{option_map_or, option_to_list, option_and_then}
 use Rattle.scmi_core.specs.Deed.{Deed, fold_with_prefix, restarted_by}
-use Rattle.scmi_core.specs.Value.{Change, Thing, State, Rate, Enabled, completed_set, failed_set, change_by}
+use Rattle.scmi_core.specs.Value.{Change, Thing, State, Rate, Enabled, completed_set, failed_set, fault_in, change_by}
 use Rattle.scmi_core.specs.Pending.{accepted_sets, acceptance, advances, is_advance, pending_sets, pending_of, sets_left}
 use Rattle.scmi_core.specs.Outbox.{failed_response_for, failed_response_to, is_restart_of, outbox_after, messages_left, messages_made, made_by, restart_count, sent_count, response_to, response_for, notice_in, situation_after, state_changed}
 use Rattle.scmi_core.specs.Situation.{Situation}
@@ -51,10 +52,10 @@ no_notice s true (Some change) = by change.thing where
   by (Enabled k) = refl
 
 completes : PendingSet → Ending
-completes p = record { set = p; failed = false }
+completes p = record { set = p; fault = None }
 
-fails : PendingSet → Ending
-fails p = record { set = p; failed = true }
+fails : Fault → PendingSet → Ending
+fails fault p = record { set = p; fault = Some fault }
 
 responses_of : (a : ℕ) (o : Option PendingSet) → delayed (option_map_or (response_for a) o []) ≡ map response_at (wanting a (option_to_list (option_map completes o)))
 unfolding delayed wanting completes
@@ -65,11 +66,11 @@ responses_of a (Some p) = by (p.agent == a) p.wanted where
   by true false = refl
   by false wanted = refl
 
-failures_of : (a : ℕ) (o : Option PendingSet) → delayed (option_map_or (failed_response_for a) o []) ≡ map response_at (wanting a (option_to_list (option_map fails o)))
+failures_of : (a : ℕ) (fault : Fault) (o : Option PendingSet) → delayed (option_map_or (failed_response_for a fault) o []) ≡ map response_at (wanting a (option_to_list (option_map (fails fault) o)))
 unfolding delayed wanting fails
-failures_of a None = refl
-failures_of a (Some p) = by (p.agent == a) p.wanted where
-  by : (is wanted : Bool) → filter (λ m. m.header.kind == 2) (if is && wanted then failed_response_to p.header ∷ [] else []) ≡ map response_at (if is && wanted then fails p ∷ [] else [])
+failures_of a fault None = refl
+failures_of a fault (Some p) = by (p.agent == a) p.wanted where
+  by : (is wanted : Bool) → filter (λ m. m.header.kind == 2) (if is && wanted then failed_response_to p.header fault ∷ [] else []) ≡ map response_at (if is && wanted then fails fault p ∷ [] else [])
   by true true = refl
   by true false = refl
   by false wanted = refl
@@ -85,7 +86,7 @@ module _ (board : Board) (a : ℕ) (h : List Deed) where
       let deed : Deed = record { event = event; reply = reply } in
       let load = λ (o : Option PendingSet). length (outbox_after board a h) + length (option_map_or (response_for a) o []) + length (pending_of board a (h ++ deed ∷ [])) in
       let change = change_by board h deed in
-      ap (λ (failed : Option PendingSet). delayed (option_map_or (failed_response_for a) failed []
+      ap (λ (failed : Option PendingSet). delayed (option_map_or (failed_response_for a (fault_in event)) failed []
       ++ (option_map_or (response_for a) (completed_set board h event) [] ++ (if nat_lt (load (completed_set board h event)) 16 then option_map_or (notice_in situation) change [] else [])))) unfailed
       ∙ ap (λ (done : Option PendingSet). delayed (option_map_or (response_for a) done [] ++ (if nat_lt (load done) 16 then option_map_or (notice_in situation) change [] else []))) uncompleted
       ∙ no_notice situation (nat_lt (load None) 16) change
@@ -93,9 +94,10 @@ module _ (board : Board) (a : ℕ) (h : List Deed) where
   made_delayed : (event : Event) (reply : List ℕ) → delayed (made_by board a h (messages_made board a h) (record { event = event; reply = reply })) ≡ map response_at (wanting a (option_to_list (ending_by board h event)))
   unfolding delayed wanting completes fails
   made_delayed (Command b f) reply = quiet (Command b f) reply refl refl
-  made_delayed (CommandFailed b f) reply = quiet (CommandFailed b f) reply refl refl
+  made_delayed (CommandFailed b f fault) reply = quiet (CommandFailed b f fault) reply refl refl
   made_delayed (Sent b) reply = quiet (Sent b) reply refl refl
   made_delayed (Restarted b) reply = quiet (Restarted b) reply refl refl
+  made_delayed (Reported effect) reply = quiet (Reported effect) reply refl refl
   made_delayed Advance reply =
       let deed : Deed = record { event = Advance; reply = reply } in
       let responses = option_map_or (response_for a) (completed_set board h Advance) [] in
@@ -104,14 +106,14 @@ module _ (board : Board) (a : ℕ) (h : List Deed) where
       ∙ ap (λ ys. delayed responses ++ ys) (no_notice situation (nat_lt load 16) (change_by board h deed))
       ∙ append-nil (delayed responses)
       ∙ responses_of a (completed_set board h Advance)
-  made_delayed AdvanceFailed reply =
-      let deed : Deed = record { event = AdvanceFailed; reply = reply } in
-      let failures = option_map_or (failed_response_for a) (failed_set board h AdvanceFailed) [] in
+  made_delayed (AdvanceFailed fault) reply =
+      let deed : Deed = record { event = AdvanceFailed fault; reply = reply } in
+      let failures = option_map_or (failed_response_for a fault) (failed_set board h (AdvanceFailed fault)) [] in
       let load = length (outbox_after board a h) + 0 + length (pending_of board a (h ++ deed ∷ [])) in
       filter-append (λ m. m.header.kind == 2) failures (if nat_lt load 16 then [] else [])
       ∙ ap (λ ys. delayed failures ++ ys) (no_notice situation (nat_lt load 16) None)
       ∙ append-nil (delayed failures)
-      ∙ failures_of a (failed_set board h AdvanceFailed)
+      ∙ failures_of a fault (failed_set board h (AdvanceFailed fault))
 
 endings-push : (board : Board) (h : List Deed) (deed : Deed) → endings board (h ++ deed ∷ []) ≡ endings board h ++ option_to_list (ending_by board h deed.event)
 endings-push board h deed = fold_with_prefix-push (λ before so_far x. so_far ++ option_to_list (ending_by board before x.event)) [] [] h deed
@@ -156,16 +158,17 @@ ended_sets-more : (board : Board) (h : List Deed) (e : Event) → advances h ≤
 unfolding ended
 ended_sets-more board h (Command b (Good m)) enough = ended_sets-push board h (deed_after board h (Command b (Good m))) None enough (λ is. refl) (λ is. absurd (cc)) false refl
 ended_sets-more board h (Command b (Malformed len header)) enough = ended_sets-push board h (deed_after board h (Command b (Malformed len header))) None enough (λ is. refl) (λ is. absurd (cc)) false refl
-ended_sets-more board h (CommandFailed b (Good m)) enough = ended_sets-push board h (deed_after board h (CommandFailed b (Good m))) None enough (λ is. refl) (λ is. absurd (cc)) false refl
-ended_sets-more board h (CommandFailed b (Malformed len header)) enough = ended_sets-push board h (deed_after board h (CommandFailed b (Malformed len header))) None enough (λ is. refl) (λ is. absurd (cc)) false refl
+ended_sets-more board h (CommandFailed b (Good m) fault) enough = ended_sets-push board h (deed_after board h (CommandFailed b (Good m) fault)) None enough (λ is. refl) (λ is. absurd (cc)) false refl
+ended_sets-more board h (CommandFailed b (Malformed len header) fault) enough = ended_sets-push board h (deed_after board h (CommandFailed b (Malformed len header) fault)) None enough (λ is. refl) (λ is. absurd (cc)) false refl
 ended_sets-more board h (Sent b) enough = ended_sets-push board h (deed_after board h (Sent b)) None enough (λ is. refl) (λ is. absurd (cc)) false refl
 ended_sets-more board h (Restarted b) enough = ended_sets-push board h (deed_after board h (Restarted b)) None enough (λ is. refl) (λ is. absurd (cc)) false refl
+ended_sets-more board h (Reported effect) enough = ended_sets-push board h (deed_after board h (Reported effect)) None enough (λ is. refl) (λ is. absurd (cc)) false refl
 ended_sets-more board h Advance enough =
     ended_sets-push board h (deed_after board h Advance) (ended (ending_by board h Advance)) enough (λ is. absurd (cc))
-    (λ is. (ended_map (λ p. record { set = p; failed = false }) (λ p. refl) (slice_get (pending_sets board h) 0), refl, refl)) true refl
-ended_sets-more board h AdvanceFailed enough =
-    ended_sets-push board h (deed_after board h AdvanceFailed) (ended (ending_by board h AdvanceFailed)) enough (λ is. absurd (cc))
-    (λ is. (ended_map (λ p. record { set = p; failed = true }) (λ p. refl) (slice_get (pending_sets board h) 0), refl, refl)) true refl
+    (λ is. (ended_map (λ p. record { set = p; fault = None }) (λ p. refl) (slice_get (pending_sets board h) 0), refl, refl)) true refl
+ended_sets-more board h (AdvanceFailed fault) enough =
+    ended_sets-push board h (deed_after board h (AdvanceFailed fault)) (ended (ending_by board h (AdvanceFailed fault))) enough (λ is. absurd (cc))
+    (λ is. (ended_map (λ p. record { set = p; fault = Some fault }) (λ p. refl) (slice_get (pending_sets board h) 0), refl, refl)) true refl
 
 responses_for-push : (board : Board) (a : ℕ) (h : List Deed) (deed : Deed)
     → responses_for board a (h ++ deed ∷ [])

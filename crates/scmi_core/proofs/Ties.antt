@@ -20,13 +20,14 @@ use Rattle.scmi_power.specs.PowerTable.{state_at, is_subscribed}
 use Rattle.scmi_clock.specs.ClockTable.{rate_at, enabled_at}
 use Rattle.scmi_core.specs.declared.pending_set.PendingSet.{PendingSet}
 use Rattle.scmi_core.specs.declared.event.Event.{Event}
-use Rattle.scmi_core.specs.declared.event.Event.TheVariants.{Command, Advance, Sent, CommandFailed, AdvanceFailed, Restarted}
+use Rattle.scmi_codec.specs.declared.fault.Fault.{Fault}
+use Rattle.scmi_core.specs.declared.event.Event.TheVariants.{Command, Advance, Sent, CommandFailed, AdvanceFailed, Restarted, Reported}
 use Rattle.scmi_core.specs.declared.tables.Tables.{Tables}
 use Rattle.std.specs.Option.{option_to_list, option_and_then, option_map_or, option_or}
 use Rattle.scmi_core.specs.Deed.{Deed, restarted_by, success_with, fold_with_prefix, success_of}
 use Rattle.scmi_core.specs.Permissions.{permission_in, has_permission}
 use Rattle.scmi_core.specs.Subscriptions.{subscription, subscription_after_reset, is_subscriber}
-use Rattle.scmi_core.specs.Value.{value, change_by, completed_set, failed_set, Thing, State, Rate, Enabled, bit_value, value_in, value_at_start, change_of}
+use Rattle.scmi_core.specs.Value.{value, change_by, commanded_by, completed_set, failed_set, reported, Thing, State, Rate, Enabled, bit_value, value_in, value_at_start, change_of}
 use Rattle.scmi_core.specs.Pending.{acceptance, pending_sets, unwanted}
 use Rattle.scmi_core.specs.Outbox.{failed_response_for, failed_words, message_with, messages_made, made_by, made_in, outbox_after, sent_count, is_sent_by, situation_after}
 use Rattle.scmi_core.specs.History.{answer_to, deeds, outbox}
@@ -60,7 +61,7 @@ same-situation board t h a agrees law lo hi =
 module _ (board : Board) (t new : Tables) (h : List Event) (deed : Deed) (agrees : Agrees board t h) (law : IsValid board)
     (stepped : HasStepped board t (added_success deed) (completed_set board (deeds board h) deed.event) new)
     (pend : new.pending ≡ pending_sets board (deeds board h ++ deed ∷ []))
-    (unfailed : failed_set board (deeds board h) deed.event ≡ None) (unrestarted : restarted_by deed.event ≡ None) where
+    (unfailed : failed_set board (deeds board h) deed.event ≡ None) (unrestarted : restarted_by deed.event ≡ None) (unreported : reported deed.event ≡ None) where
   messages_made-tied : (a : ℕ) → 1 ≤ a → a ≤ length board.agents
       → made_in a (situation_in a t) new.pending (completed_set board (deeds board h) deed.event) (change_of board (added_success deed) (completed_set board (deeds board h) deed.event))
       ≡ made_by board a (deeds board h) (messages_made board a (deeds board h)) deed
@@ -70,6 +71,7 @@ module _ (board : Board) (t new : Tables) (h : List Event) (deed : Deed) (agrees
       ap (λ left. made_in a (situation_in a t) left done change) pend
       ∙ messages_made-same board a (situation_in a t) (situation_after board a (deeds board h)) (same-situation board t h a agrees law lo hi)
       (pending_sets board (deeds board h ++ deed ∷ [])) done change stepped.known
+      ∙ ap (λ said. made_in a (situation_after board a (deeds board h)) (pending_sets board (deeds board h ++ deed ∷ [])) done (option_or said change)) (sym unreported)
       ∙ sym (made_by-unfailed board a (deeds board h) (messages_made board a (deeds board h)) deed unfailed)
 
   Agrees-deed : (e : Event) → deeds board (h ++ e ∷ []) ≡ deeds board h ++ deed ∷ [] → CanFollow board h e → ((a : ℕ) → is_sent_by a deed.event ≡ false) → Agrees board new (h ++ e ∷ [])
@@ -87,6 +89,7 @@ module _ (board : Board) (t new : Tables) (h : List Event) (deed : Deed) (agrees
         ∙ sym (ap (is_subscriber a d) more ∙ is_subscriber-push a d (deeds board h) deed);
     values = λ x within.
         stepped.values x within
+        ∙ ap (λ said. unwrap_or (option_and_then (value_in x) (option_or said (commanded_by board (deeds board h) deed))) (value_at t x)) (sym unreported)
         ∙ ap (unwrap_or (option_and_then (value_in x) (change_by board (deeds board h) deed))) (agrees.values x within)
         ∙ sym (ap (value board x) more ∙ value-push board x (deeds board h) deed);
     pending = pend ∙ sym (ap (pending_sets board) more);
@@ -109,7 +112,7 @@ Agrees-command board t new h a m reply agrees law lo hi is stepped =
     let stepped' : HasStepped board t (success_of a m.header (command_of m) (words_given board a (situation_after board a (deeds board h)) m)) None new = subst (λ r. HasStepped board t (success_of a m.header (command_of m) r) None new) words stepped in
     Agrees-deed board t new h deed agrees law stepped'
     (stepped'.pending ∙ ap (λ p. p ++ option_to_list (option_and_then (acceptance board) (added_success deed))) agrees.pending ∙ sym (pending_sets-push board (deeds board h) deed refl (advances_le-accepted board h agrees.legal)))
-    refl refl (Command a (Good m)) (deeds-push board h (Command a (Good m))) (lo, hi) (λ x. refl)
+    refl refl refl (Command a (Good m)) (deeds-push board h (Command a (Good m))) (lo, hi) (λ x. refl)
 
 -- an event that is neither a success nor a completion
 pub nothing-stepped : (board : Board) (t : Tables) → HasStepped board t None None t
@@ -159,7 +162,7 @@ Agrees-malformed board t h a len header agrees law lo hi =
     let deed : Deed = record { event = Command a (Malformed len header); reply = [] } in
     Agrees-deed board t t h deed agrees law (nothing-stepped board t)
     (sym (append-nil t.pending) ∙ ap (λ p. p ++ []) agrees.pending ∙ sym (pending_sets-push board (deeds board h) deed refl (advances_le-accepted board h agrees.legal)))
-    refl refl (Command a (Malformed len header)) (deeds-push board h (Command a (Malformed len header))) (lo, hi) (λ x. refl)
+    refl refl refl (Command a (Malformed len header)) (deeds-push board h (Command a (Malformed len header))) (lo, hi) (λ x. refl)
 
 -- a frame that was answered
 pub Agrees-answered : (board : Board) (t new : Tables) (h : List Event) (a : ℕ) (frame : Frame) → Agrees board t h → IsValid board → 1 ≤ a → a ≤ length board.agents
@@ -188,7 +191,7 @@ Agrees-advance board t new h agrees law waiting stepped =
     let stepped' : HasStepped board t None (completed_set board (deeds board h) Advance) new = subst (λ p. HasStepped board t None (slice_get p 0) new) agrees.pending stepped in
     Agrees-deed board t new h deed agrees law stepped'
     (stepped.pending ∙ rest-drop t t.pending waiting ∙ ap (drop 1) agrees.pending ∙ sym (pending_sets-advance board (deeds board h)))
-    refl refl Advance (deeds-push board h Advance) follows (λ x. refl)
+    refl refl refl Advance (deeds-push board h Advance) follows (λ x. refl)
 
 -- the effect of a frame by the tables is that by the history
 pub effect-table : (board : Board) (t : Tables) (h : List Event) (a : ℕ) (frame : Frame) → Agrees board t h → IsValid board → 1 ≤ a → a ≤ length board.agents
@@ -204,35 +207,35 @@ effect-table board t h a (Good m) agrees law lo hi = by (fits_channel board a m)
 effect-table board t h a (Malformed len header) agrees law lo hi = refl
 
 -- a command that failed
-pub Agrees-command_failed : (board : Board) (t : Tables) (h : List Event) (a : ℕ) (m : Message) → Agrees board t h → IsValid board → 1 ≤ a → a ≤ length board.agents
-    → effect_after board h (Command a (Good m)) ≢ None → Agrees board t (h ++ CommandFailed a (Good m) ∷ [])
-Agrees-command_failed board t h a m agrees law lo hi some =
-    let deed : Deed = record { event = CommandFailed a (Good m); reply = failed_words } in
+pub Agrees-command_failed : (board : Board) (t : Tables) (h : List Event) (a : ℕ) (m : Message) (fault : Fault) → Agrees board t h → IsValid board → 1 ≤ a → a ≤ length board.agents
+    → effect_after board h (Command a (Good m)) ≢ None → Agrees board t (h ++ CommandFailed a (Good m) fault ∷ [])
+Agrees-command_failed board t h a m fault agrees law lo hi some =
+    let deed : Deed = record { event = CommandFailed a (Good m) fault; reply = failed_words fault } in
     Agrees-deed board t t h deed agrees law (nothing-stepped board t)
     (sym (append-nil t.pending) ∙ ap (λ p. p ++ []) agrees.pending ∙ sym (pending_sets-push board (deeds board h) deed refl (advances_le-accepted board h agrees.legal)))
-    refl refl (CommandFailed a (Good m)) (deeds-push board h (CommandFailed a (Good m))) ((lo, hi), some) (λ x. refl)
+    refl refl refl (CommandFailed a (Good m) fault) (deeds-push board h (CommandFailed a (Good m) fault)) ((lo, hi), some) (λ x. refl)
 
 -- a completion that failed
-pub Agrees-advance_failed : (board : Board) (t new : Tables) (h : List Event) → Agrees board t h → IsValid board → 0 < length t.pending → HasFailed t new
-    → Agrees board new (h ++ AdvanceFailed ∷ [])
+pub Agrees-advance_failed : (board : Board) (t new : Tables) (h : List Event) (fault : Fault) → Agrees board t h → IsValid board → 0 < length t.pending → HasFailed fault t new
+    → Agrees board new (h ++ AdvanceFailed fault ∷ [])
 unfolding outbox
-Agrees-advance_failed board t new h agrees law waiting failed =
-    let deed : Deed = record { event = AdvanceFailed; reply = [] } in
-    let more = deeds-push board h AdvanceFailed in
+Agrees-advance_failed board t new h fault agrees law waiting failed =
+    let deed : Deed = record { event = AdvanceFailed fault; reply = [] } in
+    let more = deeds-push board h (AdvanceFailed fault) in
     let follows : 0 < length (pending_sets board (deeds board h)) = subst (λ p. 0 < length p) agrees.pending waiting in
     record {
-      legal = IsLegal-push board h AdvanceFailed agrees.legal follows;
+      legal = IsLegal-push board h (AdvanceFailed fault) agrees.legal follows;
       permissions = λ x d scope lo hi small. ap (λ b. is_allowed b x d scope) failed.base ∙ agrees.permissions x d scope lo hi small ∙ sym (ap (has_permission board x d scope) more ∙ has_permission-push board x d scope (deeds board h) deed);
       subscriptions = λ x d lo hi small. ap (λ p. is_subscribed p x d) failed.power ∙ agrees.subscriptions x d lo hi small ∙ sym (ap (is_subscriber x d) more ∙ is_subscriber-push x d (deeds board h) deed);
       values = λ x within. same_value x ∙ agrees.values x within ∙ sym (ap (value board x) more ∙ value-push board x (deeds board h) deed);
-      pending = failed.pending ∙ ap (drop 1) agrees.pending ∙ sym (ap (pending_sets board) more ∙ pending_sets-failed board (deeds board h));
+      pending = failed.pending ∙ ap (drop 1) agrees.pending ∙ sym (ap (pending_sets board) more ∙ pending_sets-failed board (deeds board h) fault);
       known = subst (All (IsOfBoard board)) (sym failed.pending) (All-drop (IsOfBoard board) 1 t.pending agrees.known);
       outboxes = λ x lo hi.
           failed.outboxes x lo
-          ∙ ap (λ b. b ++ option_map_or (failed_response_for x) (slice_get t.pending 0) []) (agrees.outboxes x lo hi)
-          ∙ ap (λ p. outbox board x h ++ option_map_or (failed_response_for x) (slice_get p 0) []) agrees.pending
-          ∙ ap (λ ys. outbox board x h ++ ys) (sym (append-nil (option_map_or (failed_response_for x) (slice_get (pending_sets board (deeds board h)) 0) []))
-          ∙ ap (λ ys. option_map_or (failed_response_for x) (slice_get (pending_sets board (deeds board h)) 0) [] ++ ys)
+          ∙ ap (λ b. b ++ option_map_or (failed_response_for x fault) (slice_get t.pending 0) []) (agrees.outboxes x lo hi)
+          ∙ ap (λ p. outbox board x h ++ option_map_or (failed_response_for x fault) (slice_get p 0) []) agrees.pending
+          ∙ ap (λ ys. outbox board x h ++ ys) (sym (append-nil (option_map_or (failed_response_for x fault) (slice_get (pending_sets board (deeds board h)) 0) []))
+          ∙ ap (λ ys. option_map_or (failed_response_for x fault) (slice_get (pending_sets board (deeds board h)) 0) [] ++ ys)
           (sym (nothing-made x (situation_after board x (deeds board h)) (pending_sets board (deeds board h ++ deed ∷ [])))))
           ∙ sym (ap (outbox_after board x) more ∙ outbox-push board x (deeds board h) deed refl (sent_le-made board h agrees.legal x));
     } where

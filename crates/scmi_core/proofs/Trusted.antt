@@ -18,7 +18,7 @@ use Rattle.scmi_codec.specs.declared.status.Status.TheVariants.{NotFound, Invali
 use Rattle.scmi_plan.specs.Board.{Board}
 use Rattle.scmi_base.specs.BaseReply.{base_reply, no_agent, no_device, no_protocol}
 use Rattle.scmi_core.specs.declared.event.Event.{Event}
-use Rattle.scmi_core.specs.declared.event.Event.TheVariants.{Command, Advance, Sent, CommandFailed, AdvanceFailed, Restarted}
+use Rattle.scmi_core.specs.declared.event.Event.TheVariants.{Command, Advance, Sent, CommandFailed, AdvanceFailed, Restarted, Reported}
 use Rattle.scmi_core.specs.Deed.{fold_with_prefix, success_of, success_with, successes}
 use Rattle.scmi_core.specs.History.{deed_after, deeds}
 use Rattle.scmi_core.specs.Laws.{HasTrustedPermissions, IsTrusted}
@@ -95,12 +95,13 @@ deed-trusted board h (Command a (Good m)) = by (fits_channel board a m) where
   by true = success-trusted board a m.header (situation_after board a (deeds board h)) (command_of m)
   by false = All-nil (IsTrusted board)
 deed-trusted board h (Command a (Malformed len header)) = All-nil (IsTrusted board)
-deed-trusted board h (CommandFailed a (Good m)) = All-nil (IsTrusted board)
-deed-trusted board h (CommandFailed a (Malformed len header)) = All-nil (IsTrusted board)
+deed-trusted board h (CommandFailed a (Good m) fault) = All-nil (IsTrusted board)
+deed-trusted board h (CommandFailed a (Malformed len header) fault) = All-nil (IsTrusted board)
 deed-trusted board h Advance = All-nil (IsTrusted board)
-deed-trusted board h AdvanceFailed = All-nil (IsTrusted board)
+deed-trusted board h (AdvanceFailed fault) = All-nil (IsTrusted board)
 deed-trusted board h (Sent a) = All-nil (IsTrusted board)
 deed-trusted board h (Restarted a) = All-nil (IsTrusted board)
+deed-trusted board h (Reported effect) = All-nil (IsTrusted board)
 
 trusted_of : (board : Board) {h : List Event} → Grown h → HasTrustedPermissions board h
 unfolding deeds fold_with_prefix

@@ -13,7 +13,7 @@ use Rattle.scmi_core.specs.Deed.{flat_map_with_prefix}
 -- the frame of an event, if it is a command of agent a, done or failed
 abbrev pub frame_from : ℕ → Event → Option Frame
 frame_from a (Command b frame) = if a == b then Some frame else None
-frame_from a (CommandFailed b frame) = if a == b then Some frame else None
+frame_from a (CommandFailed b frame fault) = if a == b then Some frame else None
 frame_from a _ = None
 
 -- the frames that agent a had executed, done or failed, in order
@@ -23,7 +23,7 @@ frames_of a h = filter_map (frame_from a) h
 -- the answer to an event after a history, if it is a command of agent a, done or failed
 abbrev pub answer_for : Board → ℕ → List Event → Event → List Answer
 answer_for board a before (Command b frame) = if a == b then answer_to board b frame before ∷ [] else []
-answer_for board a before (CommandFailed b frame) = if a == b then failed_answer frame ∷ [] else []
+answer_for board a before (CommandFailed b frame fault) = if a == b then failed_answer frame fault ∷ [] else []
 answer_for board a before _ = []
 
 -- the answers to the frames of agent a, in order

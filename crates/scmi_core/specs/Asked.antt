@@ -1,21 +1,18 @@
 -- What hardware is asked for.
 use Rattle.std.specs.Prelude.{◌≡◌, List, [], ◌∷◌, ◌++◌, Option, None, Some}
-use Rattle.scmi_core.specs.declared.effect.Effect.{Effect}
+use Rattle.scmi_plan.specs.declared.effect.Effect.{Effect}
+use Rattle.scmi_codec.specs.declared.fault.Fault.{Fault}
 
--- a change that hardware was asked for, and made or refused
+-- a change that hardware was asked for, and made, or refused with a fault
 pub data Asked : Type 0 where
   Made : (effect : Effect) → Asked
-  Refused : (effect : Effect) → Asked
+  Refused : (effect : Effect) (fault : Fault) → Asked
 
 -- the changes that were made of those asked for
 abbrev pub made_of : List Asked → List Effect
 made_of [] = []
 made_of (Made effect ∷ asks) = effect ∷ made_of asks
-made_of (Refused effect ∷ asks) = made_of asks
-
--- all that was asked for was refused
-abbrev pub IsAllRefused : List Asked → Type 0
-IsAllRefused asks = made_of asks ≡ []
+made_of (Refused effect fault ∷ asks) = made_of asks
 
 -- what was asked for, and one change more, if there is one
 abbrev pub and_asked : List Asked → Option Asked → List Asked

@@ -25,6 +25,8 @@ board_b =
       channels = replicate AGENTS whole_channel;
       kept = nothing_held;
       denied = nothing_denied;
+      absent = nothing_held;
+      free = 0;
     }
 
 -- the same board with two devices that both hold the first domain

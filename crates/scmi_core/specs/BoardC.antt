@@ -19,6 +19,8 @@ board_c =
       channels = replicate AGENTS whole_channel;
       kept = nothing_held;
       denied = nothing_denied;
+      absent = nothing_held;
+      free = 0;
     }
 
 -- the same board with one clock, of the rates 1 to 64

@@ -1,11 +1,12 @@
 -- What every legal history keeps.
-use Rattle.std.specs.Prelude.{◌≡◌, ℕ, ◌+◌, ◌≤◌, ◌==◌, ◌&&◌, Bool, true, false, if◌then◌else◌, List, [], ◌++◌, length, take, map, Option, None, option_map}
+use Rattle.std.specs.Prelude.{◌≡◌, ℕ, ◌+◌, ◌≤◌, ◌==◌, ◌&&◌, if◌then◌else◌, List, [], ◌++◌, length, take, map, Option, None, Some, option_map}
 use Rattle.std.specs.List.{filter}
 use Rattle.std.specs.Option.{option_to_list}
 use Rattle.scmi_codec.specs.declared.message.Message.{Message}
 use Rattle.scmi_plan.specs.Board.{Board}
 use Rattle.scmi_core.specs.declared.pending_set.PendingSet.{PendingSet}
 use Rattle.scmi_core.specs.declared.event.Event.{Event}
+use Rattle.scmi_codec.specs.declared.fault.Fault.{Fault}
 use Rattle.scmi_core.specs.declared.event.Event.TheVariants.{Advance, AdvanceFailed}
 use Rattle.scmi_core.specs.Deed.{Deed, flat_map_with_prefix, fold_with_prefix}
 use Rattle.scmi_core.specs.Value.{completed_set, failed_set}
@@ -18,15 +19,15 @@ use Rattle.scmi_core.specs.declared.outboxes.TheConstants.{OUTBOX_ROOM}
 abbrev pub ended_sets : Board → List Deed → List PendingSet
 ended_sets board h = take (advances h) (accepted_sets board h)
 
--- how a set ended: it completed, or the hardware refused its change
+-- how a set ended: it completed, or the hardware refused its change with a fault
 pub record Ending : Type 0 where
   pub set : PendingSet
-  pub failed : Bool
+  pub fault : Option Fault
 
 -- the end of a set that an event makes, given the deeds before it
 abbrev pub ending_by : Board → List Deed → Event → Option Ending
-ending_by board before Advance = option_map (λ p. record { set = p; failed = false }) (completed_set board before Advance)
-ending_by board before AdvanceFailed = option_map (λ p. record { set = p; failed = true }) (failed_set board before AdvanceFailed)
+ending_by board before Advance = option_map (λ p. record { set = p; fault = None }) (completed_set board before Advance)
+ending_by board before (AdvanceFailed fault) = option_map (λ p. record { set = p; fault = Some fault }) (failed_set board before (AdvanceFailed fault))
 ending_by board before _ = None
 
 -- the ends of sets, in order
@@ -35,7 +36,10 @@ endings board h = flat_map_with_prefix (λ before deed. option_to_list (ending_b
 
 -- the delayed response to a set that ended so
 abbrev pub response_at : Ending → Message
-response_at e = if e.failed then failed_response_to e.set.header else response_to e.set.header e.set.setting
+response_at e = response e.fault where
+  response : Option Fault → Message
+  response None = response_to e.set.header e.set.setting
+  response (Some fault) = failed_response_to e.set.header fault
 
 -- the delayed responses among some messages
 abbrev pub delayed_responses : List Message → List Message

@@ -5,26 +5,27 @@ use Rattle.scmi_codec.specs.declared.frame.Frame.{Frame}
 use Rattle.scmi_codec.specs.declared.frame.Answer.{Answer}
 use Rattle.scmi_plan.specs.Board.{Board}
 use Rattle.scmi_core.specs.declared.event.Event.{Event}
+use Rattle.scmi_codec.specs.declared.fault.Fault.{Fault}
 use Rattle.scmi_core.specs.declared.event.Event.TheVariants.{Command, Advance, CommandFailed, AdvanceFailed}
 use Rattle.scmi_core.specs.Asked.{Asked, IsAsked, Made, Refused}
 use Rattle.scmi_core.specs.Effect.{effect_after}
 use Rattle.scmi_core.specs.History.{answer_of_event, answer_to}
 use Rattle.scmi_core.specs.Standing.{MovesOn, Standing, StandsAfter}
 
--- an event is a command of agent a, done or failed
+-- an event is a command of agent a, done, or failed with some fault
 abbrev pub IsCommandOf : ℕ → Frame → Event → Type 0
-IsCommandOf a frame event = (event ≡ Command a frame) ⊎ (event ≡ CommandFailed a frame)
+IsCommandOf a frame event = (event ≡ Command a frame) ⊎ ((fault : Fault) × (event ≡ CommandFailed a frame fault))
 
--- an event ends a pending set, which completes or failed
+-- an event ends a pending set, which completes, or failed with some fault
 abbrev pub IsEnd : Event → Type 0
-IsEnd event = (event ≡ Advance) ⊎ (event ≡ AdvanceFailed)
+IsEnd event = (event ≡ Advance) ⊎ ((fault : Fault) × (event ≡ AdvanceFailed fault))
 
--- what hardware is asked for at an event after a history, if anything: what a command or an advance changes, which it made, or what one that failed would have changed, which it refused
+-- what hardware is asked for at an event after a history, if anything: what a command or an advance changes, which it made, or what one that failed would have changed, which it refused with the fault that the event names; for what it reports it was not asked
 abbrev pub ask_after : Board → List Event → Event → Option Asked
 ask_after board h (Command a frame) = option_map Made (effect_after board h (Command a frame))
 ask_after board h Advance = option_map Made (effect_after board h Advance)
-ask_after board h (CommandFailed a frame) = option_map Refused (effect_after board h (Command a frame))
-ask_after board h AdvanceFailed = option_map Refused (effect_after board h Advance)
+ask_after board h (CommandFailed a frame fault) = option_map (λ effect. Refused effect fault) (effect_after board h (Command a frame))
+ask_after board h (AdvanceFailed fault) = option_map (λ effect. Refused effect fault) (effect_after board h Advance)
 ask_after board h _ = None
 
 -- what hardware is asked for at events that come after others, in order
@@ -68,7 +69,7 @@ IsExecuted board a frame given h h' = (h' ≡ h ++ Command a frame ∷ []) × (g
 abbrev pub IsExecutedThere : ℕ → Frame → Answer → Standing → Standing → Type 0
 IsExecutedThere a frame given p k = MovesOn p (Command a frame) k × ((h : List Event) → StandsAfter p h → given ≡ answer_to p.board a frame h)
 
--- hardware that keeps a list has been asked for exactly what belongs to a history, in order, each change once, after what it had been asked for before: it has made what the history changes, and refused what failed
+-- hardware that keeps a list has been asked for exactly what belongs to a history, in order, each change once, after what it had been asked for before: it has made what the history changes but what it reported, and refused what failed
 abbrev pub HasMade : List Asked → Board → List Event → (List Asked → Type 0) → Type 0
 HasMade before board h asked = asked (before ++ asks board h)
 

@@ -7,8 +7,8 @@ use Rattle.scmi_codec.specs.declared.message.Message.{Message}
 use Rattle.scmi_codec.specs.declared.frame.Frame.{Frame}
 use Rattle.scmi_codec.specs.declared.frame.Frame.TheVariants.{Good, Malformed}
 use Rattle.scmi_plan.specs.Board.{Board}
-use Rattle.scmi_core.specs.declared.effect.Effect.{Effect}
-use Rattle.scmi_core.specs.declared.effect.Effect.TheVariants as effect
+use Rattle.scmi_plan.specs.declared.effect.Effect.{Effect}
+use Rattle.scmi_plan.specs.declared.effect.Effect.TheVariants as effect
 use Rattle.scmi_core.specs.declared.event.Event.{Event}
 use Rattle.scmi_core.specs.declared.pending_set.Setting.{Setting}
 use Rattle.scmi_core.specs.declared.pending_set.Setting.TheVariants as setting
@@ -16,7 +16,7 @@ use Rattle.scmi_core.specs.Deed.{success_of}
 use Rattle.scmi_core.specs.History.{deeds, deed_after}
 use Rattle.scmi_core.specs.Reply.{fits_channel, reply_words}
 use Rattle.scmi_core.specs.Situation.{Situation}
-use Rattle.scmi_core.specs.Value.{Change, Enabled, Rate, State, Thing, change_by, change_of, changes}
+use Rattle.scmi_core.specs.Value.{Change, Enabled, Rate, State, Thing, change_by, change_of, changes, commanded_changes}
 
 -- a change as the hardware sees it: a thing and its new value, whoever caused it
 abbrev pub effect_of : Change → Effect
@@ -55,6 +55,10 @@ is_set_frame (Malformed _ _) = false
 -- the effects of a history, in order
 unfoldable pub effects : Board → List Event → List Effect
 effects board h = map effect_of (changes board (deeds board h))
+
+-- the effects of a history but those that the hardware reported, in order
+unfoldable pub commanded_effects : Board → List Event → List Effect
+commanded_effects board h = map effect_of (commanded_changes board (deeds board h))
 
 -- the effect of a message of agent a that is read, by the agent's situation
 abbrev pub effect_read : Board → ℕ → Message → Situation → Option Effect

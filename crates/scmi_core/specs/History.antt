@@ -23,7 +23,7 @@ use Rattle.scmi_core.specs.Value.{Thing, value}
 -- an event with the payload of its reply, after these deeds
 abbrev pub deed_after : Board → List Deed → Event → Deed
 deed_after board h (Command a (Good m)) = record { event = Command a (Good m); reply = words_given board a (situation_after board a h) m }
-deed_after board h (CommandFailed a (Good m)) = record { event = CommandFailed a (Good m); reply = failed_words }
+deed_after board h (CommandFailed a (Good m) fault) = record { event = CommandFailed a (Good m) fault; reply = failed_words fault }
 deed_after board h event = record { event = event; reply = [] }
 
 -- each event with its reply at its prefix
@@ -46,7 +46,7 @@ answer_with answered.ChannelError m = ChannelError
 -- the answer to an event after a history, if it is a command
 abbrev pub answer_of_event : Board → List Event → Event → Option Answer
 answer_of_event board h (Command a frame) = Some (answer_to board a frame h)
-answer_of_event board h (CommandFailed a frame) = Some (failed_answer frame)
+answer_of_event board h (CommandFailed a frame fault) = Some (failed_answer frame fault)
 answer_of_event board h _ = None
 
 -- all messages made for agent a in a history, in order, without those that a restart of it dropped

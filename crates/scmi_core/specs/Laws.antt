@@ -1,5 +1,5 @@
 -- What every legal history keeps between its agents: who changed what, and what a refused command is to the others.
-use Rattle.std.specs.Prelude.{◌≡◌, ◌≢◌, ℕ, ◌==◌, ◌&&◌, Bool, true, false, not, if◌then◌else◌, List, [], ◌∷◌, ◌++◌, length, Option, Some, None, option_map}
+use Rattle.std.specs.Prelude.{◌≡◌, ◌≢◌, ◌⊎◌, ℕ, ◌==◌, ◌&&◌, Bool, true, false, not, if◌then◌else◌, List, [], ◌∷◌, ◌++◌, length, Option, Some, None, option_map}
 use Rattle.std.specs.List.{All}
 use Rattle.std.specs.Option.{is_some, option_and_then, option_or}
 use Rattle.scmi_codec.specs.Payload.{begins_with_success}
@@ -13,7 +13,8 @@ use Rattle.scmi_base.specs.Permission.{may}
 use Rattle.scmi_power.specs.PowerReply.{state_off}
 use Rattle.scmi_plan.specs.declared.scope.Scope.{Scope}
 use Rattle.scmi_core.specs.declared.event.Event.{Event}
-use Rattle.scmi_core.specs.declared.event.Event.TheVariants.{Command}
+use Rattle.scmi_plan.specs.declared.effect.Effect.{Effect}
+use Rattle.scmi_core.specs.declared.event.Event.TheVariants.{Command, Reported}
 use Rattle.scmi_core.specs.Agents.{answers_to, frame_from, frames_of}
 use Rattle.scmi_core.specs.Deed.{Success, flat_map_with_prefix, success_at, successes}
 use Rattle.scmi_core.specs.History.{deed_after, deeds, delivered_messages, made_for}
@@ -21,7 +22,7 @@ use Rattle.scmi_core.specs.Legal.{IsLegal}
 use Rattle.scmi_core.specs.Outbox.{situation_after}
 use Rattle.scmi_core.specs.Pending.{acceptance}
 use Rattle.scmi_core.specs.Permissions.{has_permission, permission_in}
-use Rattle.scmi_core.specs.Value.{Change, Enabled, Rate, State, Thing, change_now, changes, completion}
+use Rattle.scmi_core.specs.Value.{Change, Enabled, IsReportable, Rate, State, Thing, change_now, change_reported, changes, completion}
 
 -- whether an event is a command of agent a, done or failed, that was answered with another status than 0, or was malformed
 abbrev pub is_refused : Board → ℕ → List Event → Event → Bool
@@ -66,9 +67,13 @@ is_off (Enabled c) value = value == 0
 abbrev pub IsKeptOn : Board → Change → Type 0
 IsKeptOn board change = (is_kept board (resource_of change.thing) && is_off change.thing change.value) ≡ false
 
--- no change of a history switches off what the board keeps
+-- a change by an agent does not switch off what the board keeps; the hardware may report that it has switched it off by itself
+abbrev pub IsKeptOnByAgents : Board → Change → Type 0
+IsKeptOnByAgents board change = change.causer ≢ 0 → IsKeptOn board change
+
+-- no change of a history by an agent switches off what the board keeps
 abbrev pub KeepsOn : Board → List Event → Type 0
-KeepsOn board h = All (IsKeptOn board) (changes board (deeds board h))
+KeepsOn board h = All (IsKeptOnByAgents board) (changes board (deeds board h))
 
 -- the change that a success asks for: at once, or when its set completes
 abbrev pub change_asked : Board → Success → Option Change
@@ -85,9 +90,22 @@ pub record HasCause (board : Board) (h : List Event) (change : Change) : Type 0 
   pub allowed : may_after board before change.causer change.thing ≡ true
   pub kept : IsKeptOn board change
 
--- each change came of such a command
+-- the report that a change came of: it is in the history, it is of this change, and the board has that domain or clock
+pub record IsReported (board : Board) (h : List Event) (change : Change) : Type 0 where
+  pub before : List Event
+  pub effect : Effect
+  pub after : List Event
+  pub place : h ≡ before ++ Reported effect ∷ after
+  pub says : change ≡ change_reported effect
+  pub known : IsReportable board effect
+
+-- a change came of such a command, or the hardware reported it
+abbrev pub HasOrigin : Board → List Event → Change → Type 0
+HasOrigin board h change = HasCause board h change ⊎ IsReported board h change
+
+-- and so did each change
 abbrev pub HasIntegrity : Board → List Event → Type 0
-HasIntegrity board h = All (HasCause board h) (changes board (deeds board h))
+HasIntegrity board h = All (HasOrigin board h) (changes board (deeds board h))
 
 -- a success that sets what an agent may do is one of the trusted agent
 abbrev pub IsTrusted : Board → Success → Type 0

@@ -16,6 +16,7 @@ pub mod Agents
 pub mod Legal
 pub mod Bounds
 pub mod Laws
+pub mod Reports
 pub mod Channels
 pub mod WholeChannels
 pub mod PlainBoards

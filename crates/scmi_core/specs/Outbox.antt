@@ -3,7 +3,6 @@ use Rattle.std.specs.Prelude.{ℕ, ◌+◌, ◌==◌, ◌&&◌, Bool, false, not
 use Rattle.std.specs.Option.{option_map_or}
 use Rattle.scmi_codec.specs.Header.{HeaderFields}
 use Rattle.scmi_codec.specs.Status.{status_word}
-use Rattle.scmi_codec.specs.declared.status.Status.TheVariants.{HardwareError}
 use Rattle.scmi_codec.specs.declared.message.Message.{Message}
 use Rattle.scmi_codec.specs.Rate.{rate_words}
 use Rattle.scmi_plan.specs.Board.{Board}
@@ -11,7 +10,9 @@ use Rattle.scmi_core.specs.declared.pending_set.PendingSet.{PendingSet}
 use Rattle.scmi_core.specs.declared.pending_set.Setting.{Setting}
 use Rattle.scmi_core.specs.declared.event.Event.{Event}
 use Rattle.scmi_core.specs.declared.event.Event.TheVariants.{Sent}
-use Rattle.scmi_core.specs.Value.{Change, State, Thing, change_by, completed_set, failed_set, value}
+use Rattle.scmi_codec.specs.declared.fault.Fault.{Fault}
+use Rattle.scmi_codec.specs.Fault.{fault_status}
+use Rattle.scmi_core.specs.Value.{Change, State, Thing, change_by, completed_set, failed_set, fault_in, value}
 use Rattle.scmi_core.specs.Deed.{Deed, fold_with_prefix, restarted_by}
 use Rattle.scmi_core.specs.Pending.{pending_sets, sets_by}
 use Rattle.scmi_core.specs.Permissions.{has_permission}
@@ -37,16 +38,16 @@ response_to header setting =
       payload = record { items = delayed_words setting };
     }
 
--- the payload of the response to what the hardware refused: its status alone
-abbrev pub failed_words : List ℕ
-failed_words = status_word HardwareError ∷ []
+-- the payload of the response to what the hardware refused: the status of the fault alone
+abbrev pub failed_words : Fault → List ℕ
+failed_words fault = status_word (fault_status fault) ∷ []
 
 -- the delayed response to a set whose change the hardware refused (own)
-abbrev pub failed_response_to : HeaderFields → Message
-failed_response_to header =
+abbrev pub failed_response_to : HeaderFields → Fault → Message
+failed_response_to header fault =
     record {
       header = record { reserved = 0; token = header.token; protocol = header.protocol; kind = 2; id = header.id };
-      payload = record { items = failed_words };
+      payload = record { items = failed_words fault };
     }
 
 -- POWER_STATE_CHANGED: type 3, id 0, token 0 (own), the causer, the domain and its state (DEN0056B, power domain management protocol)
@@ -62,8 +63,8 @@ abbrev pub response_for : ℕ → PendingSet → List Message
 response_for a p = if p.agent == a && p.wanted then response_to p.header p.setting ∷ [] else []
 
 -- the delayed response that a failed set makes for agent a: to its own agent, if it is wanted
-abbrev pub failed_response_for : ℕ → PendingSet → List Message
-failed_response_for a p = if p.agent == a && p.wanted then failed_response_to p.header ∷ [] else []
+abbrev pub failed_response_for : ℕ → Fault → PendingSet → List Message
+failed_response_for a fault p = if p.agent == a && p.wanted then failed_response_to p.header fault ∷ [] else []
 
 -- the notification that a change makes for an agent: of a state that is another than before, if the agent asked for it; the causer gets it as well (own)
 abbrev pub notice_in : Situation → Change → List Message
@@ -105,7 +106,7 @@ situation_with board a so_far h =
 -- what a deed makes for agent a, given the deeds before it and what they made
 abbrev pub made_by : Board → ℕ → List Deed → List Message → Deed → List Message
 made_by board a before so_far deed =
-    option_map_or (failed_response_for a) (failed_set board before deed.event) []
+    option_map_or (failed_response_for a (fault_in deed.event)) (failed_set board before deed.event) []
     ++ made_in a (situation_with board a so_far before)
     (pending_sets board (before ++ deed ∷ [])) (completed_set board before deed.event) (change_by board before deed)
 

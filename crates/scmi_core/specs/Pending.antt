@@ -38,7 +38,7 @@ acceptance board s = accepted_by s.command where
 -- whether an event ends a set: it completes it, or the hardware refused its change
 abbrev pub is_advance : Event → Bool
 is_advance Advance = true
-is_advance AdvanceFailed = true
+is_advance (AdvanceFailed fault) = true
 is_advance _ = false
 
 -- how many sets have ended

@@ -1,15 +1,15 @@
--- What the definitions give of a board that keeps nothing, denies nothing and shares nothing out: what they give if no board says such things.
-use Rattle.std.specs.Prelude.{◌≡◌, ◌==◌, ◌&&◌, ℕ, nat_lt, true, if◌then◌else◌, List, [], ◌∷◌, length, Some, None}
+-- What the definitions give of a board that keeps nothing, denies nothing, shares nothing out, has all that it lists and frees no clock: what they give if no board says such things.
+use Rattle.std.specs.Prelude.{◌≡◌, ◌==◌, ◌&&◌, ℕ, nat_le, nat_lt, true, if◌then◌else◌, List, [], ◌∷◌, length, Some, None}
 use Rattle.scmi_codec.specs.Reply.{bit_0, reply_unless}
 use Rattle.scmi_codec.specs.declared.base_command.BaseCommand.TheVariants.{ResetAgent}
 use Rattle.scmi_codec.specs.declared.power_command.PowerCommand.TheVariants as power
 use Rattle.scmi_codec.specs.declared.clock_command.ClockCommand.TheVariants as clock
-use Rattle.scmi_plan.specs.Board.{Board, nothing_denied, nothing_held}
+use Rattle.scmi_plan.specs.Board.{Board, clock_at, nothing_denied, nothing_held}
 use Rattle.scmi_plan.specs.declared.limits.TheConstants.{PENDING_SETS}
 use Rattle.scmi_plan.specs.declared.scope.Scope.{Scope}
 use Rattle.scmi_base.specs.Permission.{permission}
-use Rattle.scmi_power.specs.PowerReply.{PowerView, power_reply, set_reply}
-use Rattle.scmi_clock.specs.ClockReply.{ClockView, clock_reply, config_checks}
+use Rattle.scmi_power.specs.PowerReply.{PowerView, no_domain, power_reply, set_reply}
+use Rattle.scmi_clock.specs.ClockReply.{ClockView, clock_reply, config_checks, no_clock, rate_for, rounded_rate}
 use Rattle.scmi_core.specs.Pending.{has_room_beside, load_beside}
 use Rattle.scmi_core.specs.Permissions.{has_permission}
 use Rattle.scmi_core.specs.declared.outboxes.TheConstants.{OUTBOX_ROOM}
@@ -36,6 +36,19 @@ abbrev pub ConfiguresByPermission : Board → ClockView → (c attributes : ℕ)
 ConfiguresByPermission board v c attributes =
     board.kept ≡ nothing_held
     → clock_reply board v (clock.Config c attributes) ≡ reply_unless (config_checks board (v.may c) c attributes) (0 ∷ [])
+
+-- a domain that is not found is one that the board lacks
+abbrev pub FindsDomains : Board → (d : ℕ) → Type 0
+FindsDomains board d = board.absent ≡ nothing_held → no_domain board d ≡ nat_le (length board.domains) d
+
+-- and so is a clock
+abbrev pub FindsClocks : Board → (c : ℕ) → Type 0
+FindsClocks board c = board.absent ≡ nothing_held → no_clock board c ≡ nat_le (length board.clocks) c
+
+-- each rate is rounded to a supported one
+abbrev pub Rounds : Board → (c flags asked : ℕ) → Type 0
+Rounds board c flags asked =
+    board.free ≡ 0 → rate_for board c flags asked ≡ rounded_rate (clock_at board c).rates flags asked
 
 -- an agent that all pending sets may be of has room for what is left of them and of its outbox
 abbrev pub SharesAll : (waiting a : ℕ) → List PendingSet → Type 0

@@ -14,6 +14,7 @@ use Rattle.scmi_plan.specs.Board.{Board, channel_of}
 use Rattle.scmi_base.specs.BaseReply.{base_reply}
 use Rattle.scmi_power.specs.PowerReply.{power_reply}
 use Rattle.scmi_clock.specs.ClockReply.{clock_reply}
+use Rattle.scmi_codec.specs.declared.fault.Fault.{Fault}
 use Rattle.scmi_core.specs.Outbox.{failed_words, message_with}
 use Rattle.scmi_core.specs.Situation.{Situation, clock_view, power_view}
 
@@ -42,7 +43,7 @@ abbrev pub answer_in : Board → ℕ → Frame → Situation → Answer
 answer_in board a (Good m) s = if fits_channel board a m then Reply (reply_in board a m s) else ChannelError
 answer_in board a (Malformed len header) s = ChannelError
 
--- the answer to a frame whose change the hardware refused: the message's header, and HARDWARE_ERROR alone
-abbrev pub failed_answer : Frame → Answer
-failed_answer (Good m) = Reply (message_with m.header failed_words)
-failed_answer (Malformed len header) = ChannelError
+-- the answer to a frame whose change the hardware refused: the message's header, and the status of the fault alone
+abbrev pub failed_answer : Frame → Fault → Answer
+failed_answer (Good m) fault = Reply (message_with m.header (failed_words fault))
+failed_answer (Malformed len header) fault = ChannelError

@@ -19,8 +19,9 @@ use Rattle.scmi_base.specs.Permission.{is_allowed}
 use Rattle.scmi_plan.specs.declared.scope.Scope.{Scope}
 use Rattle.scmi_power.specs.PowerTable.{is_subscribed}
 use Rattle.scmi_core.specs.declared.pending_set.PendingSet.{PendingSet}
+use Rattle.scmi_codec.specs.declared.fault.Fault.{Fault}
 use Rattle.scmi_core.specs.declared.tables.Tables.{Tables}
-use Rattle.scmi_core.specs.Value.{Thing, change_of, value_in}
+use Rattle.scmi_core.specs.Value.{Change, Thing, change_of, value_in}
 use Rattle.scmi_core.specs.Outboxes.{Gets, HasSameOutbox}
 use Rattle.scmi_core.specs.Tables.{IsOfBoard, IsThing, load_at, outbox_at, situation_in, value_at}
 use Rattle.scmi_core.specs.Deed.{Success, success_of}
@@ -73,13 +74,13 @@ pub record SameButPending (t new : Tables) : Type 0 where
 abbrev pub Accepts : Tables → Tables → Option PendingSet → Type 0
 Accepts t new set = new.pending ≡ t.pending ++ option_to_list set
 
--- the first pending set was taken off as failed: nothing else changed but the delayed response to it
-pub record HasFailed (t new : Tables) : Type 0 where
+-- the first pending set was taken off as failed with a fault: nothing else changed but the delayed response to it
+pub record HasFailed (fault : Fault) (t new : Tables) : Type 0 where
   pub base : new.base ≡ t.base
   pub power : new.power ≡ t.power
   pub clocks : new.clocks ≡ t.clocks
   pub pending : new.pending ≡ drop 1 t.pending
-  pub outboxes : (a : ℕ) → 1 ≤ a → Gets t.outboxes new.outboxes a (option_map_or (failed_response_for a) (slice_get t.pending 0) [])
+  pub outboxes : (a : ℕ) → 1 ≤ a → Gets t.outboxes new.outboxes a (option_map_or (failed_response_for a fault) (slice_get t.pending 0) [])
 
 -- an agent restarted: its requests for notifications have ended, its outbox is empty, it wants no delayed response to its pending sets, and nothing else changed
 pub record HasRestarted (a : ℕ) (t new : Tables) : Type 0 where
@@ -90,6 +91,15 @@ pub record HasRestarted (a : ℕ) (t new : Tables) : Type 0 where
   pub pending : new.pending ≡ map (unwanted a) t.pending
   pub emptied : outbox_at new a ≡ []
   pub others : (b : ℕ) → 1 ≤ b → b ≢ a → HasSameOutbox t.outboxes new.outboxes b
+
+-- the hardware reported a change: its thing has the new value, subscribers are notified of it, and nothing else changed
+pub record HasReported (board : Board) (change : Change) (t new : Tables) : Type 0 where
+  pub base : new.base ≡ t.base
+  pub subscribers : new.power.subscribers ≡ t.power.subscribers
+  pub values : (x : Thing) → IsThing board x → value_at new x ≡ unwrap_or (value_in x change) (value_at t x)
+  pub known : IsThing board change.thing
+  pub pending : new.pending ≡ t.pending
+  pub outboxes : (a : ℕ) → 1 ≤ a → a ≤ length board.agents → Gets t.outboxes new.outboxes a (made_in a (situation_in a t) t.pending None (Some change))
 
 -- the domain that a command sets
 abbrev pub set_domain : PowerCommand → Option ℕ

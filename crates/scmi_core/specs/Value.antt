@@ -1,17 +1,21 @@
 -- Values of domains and clocks, and the events that change them.
-use Rattle.std.specs.Prelude.{ℕ, ◌==◌, Bool, false, if◌then◌else◌, List, slice_get, Option, Some, None, option_map}
+use Rattle.std.specs.Prelude.{◌≡◌, ℕ, ◌==◌, ◌<◌, ◌≤◌, Bool, true, false, if◌then◌else◌, List, length, slice_get, Option, Some, None, option_map}
 use Rattle.std.specs.List.{filter_map}
 use Rattle.std.specs.Option.{option_and_then, option_or, option_to_list}
 use Rattle.scmi_codec.specs.declared.command.Command.TheVariants.{Base, Power, Clock}
 use Rattle.scmi_codec.specs.declared.command.Command as codec
 use Rattle.scmi_plan.specs.Board.{Board, domain_at, clock_at}
-use Rattle.scmi_power.specs.PowerReply.{state_on, state_off}
+use Rattle.scmi_power.specs.PowerReply.{is_state, state_on, state_off}
 use Rattle.scmi_power.specs.PowerTable.{set_now}
 use Rattle.scmi_clock.specs.ClockTable.{rate_now, enabled_now}
 use Rattle.scmi_core.specs.declared.pending_set.PendingSet.{PendingSet}
 use Rattle.scmi_core.specs.declared.pending_set.Setting.{Setting}
 use Rattle.scmi_core.specs.declared.event.Event.{Event}
-use Rattle.scmi_core.specs.declared.event.Event.TheVariants.{Advance, AdvanceFailed}
+use Rattle.scmi_core.specs.declared.event.Event.TheVariants.{Advance, AdvanceFailed, CommandFailed, Reported}
+use Rattle.scmi_plan.specs.declared.effect.Effect.{Effect}
+use Rattle.scmi_plan.specs.declared.effect.Effect.TheVariants as effect
+use Rattle.scmi_codec.specs.declared.fault.Fault.{Fault}
+use Rattle.scmi_codec.specs.declared.fault.Fault.TheVariants.{HardwareError}
 use Rattle.scmi_core.specs.Deed.{Deed, Success, flat_map_with_prefix, latest, success_at}
 use Rattle.scmi_core.specs.Pending.{pending_sets}
 use Rattle.scmi_core.specs.declared.pending_set.Setting.TheVariants as setting
@@ -29,7 +33,7 @@ same_thing (Rate c) (Rate e) = c == e
 same_thing (Enabled c) (Enabled e) = c == e
 same_thing _ _ = false
 
--- a value that an agent gave to a thing
+-- a value that an agent gave to a thing, or of which the hardware reported that the thing has it
 pub record Change : Type 0 where
   pub thing : Thing
   pub value : ℕ
@@ -65,20 +69,63 @@ completed_set board before _ = None
 
 -- the set that an event ends as failed: the first that is pending before it
 abbrev pub failed_set : Board → List Deed → Event → Option PendingSet
-failed_set board before AdvanceFailed = slice_get (pending_sets board before) 0
+failed_set board before (AdvanceFailed fault) = slice_get (pending_sets board before) 0
 failed_set board before _ = None
+
+-- the fault with which an event failed; of an event that did not fail it says nothing
+abbrev pub fault_in : Event → Fault
+fault_in (AdvanceFailed fault) = fault
+fault_in (CommandFailed a frame fault) = fault
+fault_in _ = HardwareError
 
 -- the change that a success or a completed set makes
 abbrev pub change_of : Board → Option Success → Option PendingSet → Option Change
 change_of board success done = option_or (option_map completion done) (option_and_then (change_now board) success)
 
--- the change that a deed makes, given the deeds before it
+-- what the hardware made by itself, as a change: no agent caused it, and so the platform did, whose number is 0
+abbrev pub change_reported : Effect → Change
+change_reported (effect.State d state) = record { thing = State d; value = state; causer = 0 }
+change_reported (effect.Rate c rate) = record { thing = Rate c; value = rate; causer = 0 }
+change_reported (effect.Enabled c enabled) = record { thing = Enabled c; value = bit_value enabled; causer = 0 }
+
+-- the change that an event reports, if it is one that the hardware made by itself
+abbrev pub reported : Event → Option Change
+reported (Reported effect) = Some (change_reported effect)
+reported _ = None
+
+-- the change that a deed makes for a command, at once or as its set completes, given the deeds before it
+abbrev pub commanded_by : Board → List Deed → Deed → Option Change
+commanded_by board before deed = change_of board (success_at deed.event deed.reply) (completed_set board before deed.event)
+
+-- the change that a deed makes, given the deeds before it: one that the hardware reported, or one for a command
 abbrev pub change_by : Board → List Deed → Deed → Option Change
-change_by board before deed = change_of board (success_at deed.event deed.reply) (completed_set board before deed.event)
+change_by board before deed = option_or (reported deed.event) (commanded_by board before deed)
 
 -- the changes of a history, in order
 abbrev pub changes : Board → List Deed → List Change
 changes board h = flat_map_with_prefix (λ before deed. option_to_list (change_by board before deed)) h
+
+-- the changes of a history but those that the hardware reported, in order
+abbrev pub commanded_changes : Board → List Deed → List Change
+commanded_changes board h = flat_map_with_prefix (λ before deed. option_to_list (commanded_by board before deed)) h
+
+-- the board lacks the domain or clock of a report
+abbrev pub HasNoResource : Board → Effect → Type 0
+HasNoResource board (effect.State d state) = length board.domains ≤ d
+HasNoResource board (effect.Rate c rate) = length board.clocks ≤ c
+HasNoResource board (effect.Enabled c enabled) = length board.clocks ≤ c
+
+-- a report gives a domain of the board a state that is neither ON nor OFF
+abbrev pub HasNoState : Board → Effect → Type 0
+HasNoState board (effect.State d state) = (d < length board.domains) × (is_state state ≡ false)
+HasNoState board (effect.Rate c rate) = ⊥
+HasNoState board (effect.Enabled c enabled) = ⊥
+
+-- the hardware may report this: the board has the domain or clock, and a domain's state is ON or OFF; a clock may have any rate
+abbrev pub IsReportable : Board → Effect → Type 0
+IsReportable board (effect.State d state) = (d < length board.domains) × (is_state state ≡ true)
+IsReportable board (effect.Rate c rate) = c < length board.clocks
+IsReportable board (effect.Enabled c enabled) = c < length board.clocks
 
 -- a thing's value on the board
 abbrev pub value_at_start : Board → Thing → ℕ

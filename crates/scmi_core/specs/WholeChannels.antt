@@ -12,7 +12,7 @@ use Rattle.scmi_plan.specs.Board.{Board, channel_of, clock_at, domain_at, whole_
 use Rattle.scmi_plan.specs.declared.domain.Domain.{Domain}
 use Rattle.scmi_plan.specs.Rates as rates
 use Rattle.scmi_power.specs.PowerReply.{attributes, bit, is_state, no_domain, notify_reply, set_reply}
-use Rattle.scmi_clock.specs.ClockReply.{attributes_reply, no_clock, rates_word, rates_words, rounded_rate, set_checks}
+use Rattle.scmi_clock.specs.ClockReply.{attributes_reply, no_clock, rate_for, rates_word, rates_words, set_checks}
 use Rattle.scmi_clock.specs.SetFlags.{has_unknown_flags, is_asynchronous}
 use Rattle.scmi_core.specs.Reply.{answer_in, reply_in, reply_words, words_given}
 use Rattle.scmi_core.specs.Situation.{Situation}
@@ -33,7 +33,7 @@ ChecksRateSet board may busy room flags c rate =
     reply_unless (set_checks board whole_channel may busy room flags c rate) (0 ∷ [])
     ≡ reply_unless (
     (no_clock board c, NotFound)
-    ∷ (has_unknown_flags flags || is_none (rounded_rate (clock_at board c).rates flags rate), InvalidParameters)
+    ∷ (has_unknown_flags flags || is_none (rate_for board c flags rate), InvalidParameters)
     ∷ (not may, Denied)
     ∷ (busy || (is_asynchronous flags && not room), Busy)
     ∷ [])

@@ -11,10 +11,9 @@ ghost use Rattle.scmi_core.specs.Step.{HasAnswered};
 ghost use Rattle.scmi_core.specs.Tables.{situation_in};
 
 use crate::answered::Answered;
-use crate::effect::Effect;
 use crate::tables::Tables;
 use scmi_codec::{Frame, Message, SUCCESS, set_payload};
-use scmi_plan::Plan;
+use scmi_plan::{Effect, Plan};
 
 impl Tables {
     /// As `answer`, for a frame whose effect the hardware made; nothing is decided again.

@@ -1,5 +1,5 @@
 //! Changes of hardware, of a platform that keeps its history.
-ghost use Rattle.std.specs.Prelude.{◌≡◌, ◌≢◌, ◌≤◌, ◌<◌, ◌+◌, ◌++◌, ◌∷◌, [], ◌↔◌, length, true, false, None, IfOk, OnOk, OnErr, IfErr, Err};
+ghost use Rattle.std.specs.Prelude.{◌≡◌, ◌⊎◌, ◌≢◌, ◌≤◌, ◌<◌, ◌+◌, ◌++◌, ◌∷◌, [], ◌↔◌, length, true, false, None, IfOk, OnOk, OnErr, IfErr, Err};
 ghost use Rattle.scmi_codec.specs.declared.frame.Answer.TheVariants.{Reply};
 ghost use Rattle.scmi_plan.specs.Agent.{IsAgent, IsNoAgent};
 ghost use Rattle.scmi_core.specs.Effect.{effect_after};
@@ -9,10 +9,10 @@ ghost use Rattle.scmi_core.specs.Reply.{failed_answer};
 ghost use Rattle.scmi_core.specs.declared.event.Event.TheVariants.{Command as Called, Advance, CommandFailed, AdvanceFailed};
 
 use crate::core_error::CoreError;
-use crate::effect::Effect;
 use crate::platform_core::Core;
 use crate::platform_effects::set_failed_reply;
-use scmi_codec::{Frame, Message};
+use scmi_codec::{Fault, Frame, Message};
+use scmi_plan::Effect;
 
 impl Core {
     /// What an agent's command is to change of the hardware, before it is executed; `None` if it
@@ -35,19 +35,20 @@ impl Core {
         self.platform.effect_of_advance()
     }
 
-    /// Answers a command whose change the hardware refused by HARDWARE_ERROR, and adds that to the
-    /// history; nothing else changed. `NoAgent` if the board lacks the agent, `Nothing` if the
-    /// command changes nothing of the hardware, and `Memory` if the trace could not grow; then
-    /// nothing changed.
+    /// Answers a command whose change the hardware refused with the status of this fault, and adds
+    /// that to the history; nothing else changed. `NoAgent` if the board lacks the agent, `Nothing`
+    /// if the command changes nothing of the hardware, and `Memory` if the trace could not grow;
+    /// then nothing changed.
     pub fn command_failed(
         &mut self,
         agent: u32,
         frame: &Frame,
+        fault: Fault,
         reply: &mut Message,
     ) -> Result<(), CoreError>
-        ensures answer { OnOk result (Reply reply.new ≡ failed_answer frame.now) }
+        ensures answer { OnOk result (Reply reply.new ≡ failed_answer frame.now fault) }
         ensures event { OnOk result
-            (self.new.history ≡ self.old.history ++ CommandFailed agent frame.now ∷ []) }
+            (self.new.history ≡ self.old.history ++ CommandFailed agent frame.now fault ∷ []) }
         ensures board { self.new.board ≡ self.old.board }
         ensures legal { IsLegal self.new.board self.new.history }
         ensures no_agent { (result ≡ Err CoreError.NoAgent)
@@ -56,6 +57,8 @@ impl Core {
             ↔ (IsAgent (length self.old.board.agents) agent
             × (effect_after self.old.board self.old.history (Called agent frame.now) ≡ None)) }
         ensures memory { 0 < self.old.room → result ≢ Err CoreError.Memory }
+        ensures errors { IfErr result (λ e. (e ≡ CoreError.NoAgent)
+            ⊎ (e ≡ CoreError.Nothing) ⊎ (e ≡ CoreError.Memory)) }
         ensures err { OnErr result (self.new ≡ self.old) }
         ensures kept { OnErr result (reply.new ≡ reply.old) }
     {
@@ -64,20 +67,20 @@ impl Core {
             return Err(CoreError::Nothing);
         };
         self.trace.reserve()?;
-        set_failed_reply(message, reply);
-        self.trace.push_command_failed(agent, message);
+        set_failed_reply(message, fault, reply);
+        self.trace.push_command_failed(agent, message, fault);
         Ok(())
     }
 
-    /// Takes the first pending set off, whose change the hardware refused, and adds that to the
-    /// history: a delayed response of HARDWARE_ERROR if one is wanted, no notification, and no
-    /// value changed. `Ok(false)` if nothing is pending, and then nothing changed. `Memory` if a
+    /// Takes the first pending set off, whose change the hardware refused with this fault, and adds
+    /// that to the history: a delayed response of its status if one is wanted, no notification, and
+    /// no value changed. `Ok(false)` if nothing is pending, and then nothing changed. `Memory` if a
     /// set is pending and the trace could not grow, the only refusal; then nothing changed either.
-    pub fn advance_failed(&mut self) -> Result<bool, CoreError>
+    pub fn advance_failed(&mut self, fault: Fault) -> Result<bool, CoreError>
         ensures waiting { IfOk result (λ did.
             (did ≡ false) ↔ IsIdle self.old.board self.old.history) }
         ensures event { IfOk result (λ did.
-            did ≡ true → self.new.history ≡ self.old.history ++ AdvanceFailed ∷ []) }
+            did ≡ true → self.new.history ≡ self.old.history ++ AdvanceFailed fault ∷ []) }
         ensures same { IfOk result (λ did. did ≡ false → self.new ≡ self.old) }
         ensures board { self.new.board ≡ self.old.board }
         ensures legal { IsLegal self.new.board self.new.history }
@@ -91,8 +94,8 @@ impl Core {
             return Ok(false);
         }
         self.trace.reserve()?;
-        self.platform.fail();
-        self.trace.push_advance_failed();
+        self.platform.fail(fault);
+        self.trace.push_advance_failed(fault);
         Ok(true)
     }
 }

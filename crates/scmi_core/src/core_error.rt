@@ -6,7 +6,7 @@ use std::alloc::AllocError;
 use thiserror::Error;
 
 /// Why a call of `Core` was refused. A refused call changed nothing. If several apply, the one that
-/// comes first in `NoAgent`, `Nothing`, `Memory` is returned (own).
+/// comes first in `NoAgent`, `NoResource`, `NoState`, `Nothing`, `Memory` is returned (own).
 #[derive(Clone, Copy, PartialEq, Eq, Debug, Error)]
 pub enum CoreError {
     /// A growth of the trace was refused.
@@ -18,6 +18,12 @@ pub enum CoreError {
     /// The agent's outbox is empty.
     #[error("the agent's outbox is empty")]
     Nothing = 3,
+    /// The number of a report is no domain's or no clock's of the board.
+    #[error("the board has no such domain or clock")]
+    NoResource = 4,
+    /// The state that a report gives a domain is neither ON nor OFF.
+    #[error("the state is neither on nor off")]
+    NoState = 5,
 }
 
 impl From<AllocError> for CoreError {

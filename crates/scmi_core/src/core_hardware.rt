@@ -1,5 +1,5 @@
 //! A platform that keeps its history, beside the hardware that it switches.
-ghost use Rattle.std.specs.Prelude.{◌≡◌, ◌≢◌, ◌<◌, ◌++◌, ◌∷◌, [], ◌↔◌, List, length, true, false, None, Some, Ok, IfOk, OnErr, IfErr, Err};
+ghost use Rattle.std.specs.Prelude.{◌≡◌, ◌⊎◌, ◌≢◌, ◌<◌, ◌++◌, ◌∷◌, [], ◌↔◌, List, length, true, false, None, Some, Ok, IfOk, OnErr, IfErr, Err};
 ghost use Rattle.scmi_codec.specs.declared.frame.Answer.TheVariants.{Reply};
 ghost use Rattle.scmi_plan.specs.Agent.{IsAgent, IsNoAgent};
 ghost use Rattle.scmi_core.specs.Asked.{Asked, IsAsked};
@@ -12,16 +12,16 @@ ghost use Rattle.scmi_core.specs.declared.event.Event.TheVariants.{Command as Ca
 
 use crate::answered::Answered;
 use crate::core_error::CoreError;
-use crate::effect::Effect;
 use crate::hardware::{Hardware, make};
 use crate::platform_core::Core;
 use crate::platform_effects::set_failed_reply;
-use scmi_codec::{Frame, Message};
+use scmi_codec::{Fault, Frame, Message};
+use scmi_plan::Effect;
 
 impl Core {
     /// As `command_into`, beside the hardware: what the command changes of it is made first, and if
-    /// the hardware refuses that, the command has failed, and its reply is HARDWARE_ERROR. The
-    /// hardware is not asked if the call is refused.
+    /// the hardware refuses that, the command has failed, and its reply is the status of the fault.
+    /// The hardware is not asked if the call is refused.
     pub fn command_on<H: Hardware>(
         &mut self,
         hardware: &mut H,
@@ -45,6 +45,8 @@ impl Core {
             ↔ IsNoAgent (length self.old.board.agents) agent }
         ensures memory { 0 < self.old.room → result ≢ Err CoreError.Memory }
         ensures not_nothing { result ≢ Err CoreError.Nothing }
+        ensures errors { IfErr result (λ e.
+            (e ≡ CoreError.NoAgent) ⊎ (e ≡ CoreError.Memory)) }
         ensures err { OnErr result (self.new ≡ self.old) }
         ensures kept { OnErr result (reply.new ≡ reply.old) }
         ensures unasked { OnErr result
@@ -81,11 +83,12 @@ impl Core {
         let Some(effect) = self.platform.effect_in(agent, frame) else {
             return self.execute(agent, frame, reply);
         };
-        if make(hardware, Some(effect)) {
-            self.commit(agent, frame, effect, reply)
-        } else {
-            self.fail_command(agent, frame, reply);
-            Answered::Reply
+        match make(hardware, Some(effect)) {
+            Ok(()) => self.commit(agent, frame, effect, reply),
+            Err(fault) => {
+                self.fail_command(agent, frame, fault, reply);
+                Answered::Reply
+            }
         }
     }
 
@@ -133,12 +136,15 @@ impl Core {
         ensures legal { IsLegal self.new.board self.new.history }
     {
         let effect = self.platform.effect_of_advance();
-        if make(hardware, effect) {
-            self.platform.complete();
-            self.trace.push_advance();
-        } else {
-            self.platform.fail();
-            self.trace.push_advance_failed();
+        match make(hardware, effect) {
+            Ok(()) => {
+                self.platform.complete();
+                self.trace.push_advance();
+            }
+            Err(fault) => {
+                self.platform.fail(fault);
+                self.trace.push_advance_failed(fault);
+            }
         }
     }
 
@@ -161,20 +167,21 @@ impl Core {
         answered
     }
 
-    /// Answers a command of an agent of the board whose change the hardware refused.
-    fn fail_command(&mut self, agent: u32, frame: &Frame, reply: &mut Message)
+    /// Answers a command of an agent of the board, whose change the hardware refused with a fault.
+    fn fail_command(&mut self, agent: u32, frame: &Frame, fault: Fault, reply: &mut Message)
         requires agent { IsAgent (length self.old.board.agents) agent }
         requires room { 0 < self.old.room }
         requires effect { effect_after self.old.board self.old.history (Called agent frame.now)
             ≢ None }
-        ensures answer { Reply reply.new ≡ failed_answer frame.now }
-        ensures event { self.new.history ≡ self.old.history ++ CommandFailed agent frame.now ∷ [] }
+        ensures answer { Reply reply.new ≡ failed_answer frame.now fault }
+        ensures event { self.new.history
+            ≡ self.old.history ++ CommandFailed agent frame.now fault ∷ [] }
         ensures board { self.new.board ≡ self.old.board }
         ensures legal { IsLegal self.new.board self.new.history }
     {
         if let Some(message) = self.platform.changing(agent, frame) {
-            set_failed_reply(message, reply);
-            self.trace.push_command_failed(agent, message);
+            set_failed_reply(message, fault, reply);
+            self.trace.push_command_failed(agent, message, fault);
         }
     }
 }

@@ -1,5 +1,5 @@
 //! An agent that restarts, of a platform that keeps its history.
-ghost use Rattle.std.specs.Prelude.{◌≡◌, ◌≢◌, ◌<◌, ◌++◌, ◌∷◌, [], ◌↔◌, length, OnOk, OnErr, Err};
+ghost use Rattle.std.specs.Prelude.{◌≡◌, ◌⊎◌, ◌≢◌, ◌<◌, ◌++◌, ◌∷◌, [], ◌↔◌, length, OnOk, OnErr, Err, IfErr};
 ghost use Rattle.scmi_plan.specs.Agent.{IsAgent, IsNoAgent};
 ghost use Rattle.scmi_core.specs.Legal.{IsLegal};
 ghost use Rattle.scmi_core.specs.declared.event.Event.TheVariants.{Restarted};
@@ -22,6 +22,8 @@ impl Core {
             ↔ IsNoAgent (length self.old.board.agents) agent }
         ensures memory { 0 < self.old.room → result ≢ Err CoreError.Memory }
         ensures not_nothing { result ≢ Err CoreError.Nothing }
+        ensures errors { IfErr result (λ e.
+            (e ≡ CoreError.NoAgent) ⊎ (e ≡ CoreError.Memory)) }
         ensures err { OnErr result (self.new ≡ self.old) }
     {
         self.platform.check_agent(agent)?;

@@ -15,12 +15,11 @@ ghost use Rattle.scmi_core.specs.declared.event.Event.{Event};
 ghost use Rattle.scmi_core.specs.declared.event.Event.TheVariants.{Command as Called};
 
 use crate::channel::fits_channel;
-use crate::effect::Effect;
 use crate::tables::Tables;
 use scmi_codec::{
     CLOCK_PROTOCOL, ClockCommand, Command, Frame, Header, Message, POWER_PROTOCOL, PowerCommand,
 };
-use scmi_plan::Plan;
+use scmi_plan::{Effect, Plan};
 
 impl Tables {
     /// The effect of a frame of an agent, if it has one. A message that has none by its header is not

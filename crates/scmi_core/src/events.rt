@@ -9,7 +9,8 @@ ghost use Rattle.scmi_core.specs.Trace.{AreEvents, event_of, events_of, payload_
 
 use crate::event::Event;
 use crate::mark::Mark;
-use scmi_codec::{Frame, Header, Message, payload_of};
+use scmi_codec::{Frame, Header, Message, payload_of, rate_of};
+use scmi_plan::Effect;
 use std::marker::Model;
 
 /// Events of a trace, in order of time. Contracts see those that are left.
@@ -75,19 +76,23 @@ fn payload_count(mark: Mark, size: u32) -> usize
     ensures { result ≡ payload_count mark size }
 {
     match mark {
-        Mark::Message(_) | Mark::Failed(_) => size as usize,
+        Mark::Message(_) | Mark::Failed(..) => size as usize,
+        Mark::RateReported => 2,
         _ => 0,
     }
 }
 
 /// The event of a mark, a size, a header and the payload words that follow them.
 fn event_of(mark: Mark, size: u32, header: u32, payload: &[u32]) -> Event
-    requires { length payload.now ≤ PAYLOAD_WORDS }
+    requires few { length payload.now ≤ PAYLOAD_WORDS }
+    requires count { length payload.now ≡ payload_count mark size }
     ensures { result ≡ event_of mark size header payload.now }
 {
     match mark {
         Mark::Message(agent) => Event::Command(agent, frame_of(header, payload)),
-        Mark::Failed(agent) => Event::CommandFailed(agent, frame_of(header, payload)),
+        Mark::Failed(agent, fault) => {
+            Event::CommandFailed(agent, frame_of(header, payload), fault)
+        }
         Mark::Malformed(agent) => Event::Command(
             agent,
             Frame::Malformed {
@@ -98,7 +103,19 @@ fn event_of(mark: Mark, size: u32, header: u32, payload: &[u32]) -> Event
         Mark::Sent(agent) => Event::Sent(agent),
         Mark::Restarted(agent) => Event::Restarted(agent),
         Mark::Advance => Event::Advance,
-        Mark::AdvanceFailed => Event::AdvanceFailed,
+        Mark::AdvanceFailed(fault) => Event::AdvanceFailed(fault),
+        Mark::StateReported => Event::Reported(Effect::State {
+            domain: size,
+            state: header,
+        }),
+        Mark::RateReported => Event::Reported(Effect::Rate {
+            clock: size,
+            rate: rate_of(payload[0], payload[1]),
+        }),
+        Mark::EnabledReported => Event::Reported(Effect::Enabled {
+            clock: size,
+            enabled: header == 1,
+        }),
     }
 }
 

@@ -1,5 +1,6 @@
 //! What every legal history keeps.
 ghost use Rattle.std.specs.Prelude.{◌≡◌, ◌++◌, ◌∷◌, [], ℕ, List, true};
+ghost use Rattle.std.specs.List.{All};
 ghost use Rattle.std.specs.Option.{option_to_list};
 ghost use Rattle.scmi_plan.specs.Board.{Board};
 ghost use Rattle.scmi_core.specs.Asked.{made_of};
@@ -7,10 +8,13 @@ ghost use Rattle.scmi_core.specs.Bounds.{HasBounds, HasResponses};
 ghost use Rattle.scmi_plan.specs.Plan.{IsValid};
 ghost use Rattle.scmi_core.specs.Channels.{KeepsChannels};
 ghost use Rattle.scmi_core.specs.Driven.{asks};
-ghost use Rattle.scmi_core.specs.Effect.{effect_after, effects};
+ghost use Rattle.scmi_core.specs.Effect.{commanded_effects, effect_after, effects};
 ghost use Rattle.scmi_core.specs.History.{deeds};
 ghost use Rattle.scmi_core.specs.Laws.{AreAlikeBut, HasIntegrity, HasIsolation, HasTrustedPermissions, KeepsOn, is_refused};
 ghost use Rattle.scmi_core.specs.Legal.{IsLegal};
+ghost use Rattle.scmi_core.specs.Plain.{IsNoReport};
+ghost use Rattle.scmi_core.specs.Reports.{IsTakenOver};
+ghost use Rattle.scmi_plan.specs.declared.effect.Effect.{Effect};
 ghost use Rattle.scmi_core.specs.declared.event.Event.{Event};
 
 use crate::trace::Trace;
@@ -44,10 +48,12 @@ impl Trace {
 /// At most 8 sets are pending, an agent's outbox and its pending sets are at most 16 together, and
 /// no delayed response is lost unless its agent restarts. A command that is refused moves nobody.
 /// Without all the commands that an agent had refused, a history is as legal, and the same to every
-/// other agent. Each change came of a command whose agent might make that change there, and only
-/// the trusted agent decides what agents may do. What the board keeps is never switched off. Each answer and each message has room in its
-/// agent's channels, and for an agent that the platform can't send to none is made. What a history
-/// changes of the hardware is what each event changes, in order.
+/// other agent. Each change came of a command whose agent might make that change there, or the
+/// hardware reported it, and only the trusted agent decides what agents may do. No agent switches
+/// off what the board keeps. Each answer and each message has room in its agent's channels, and for
+/// an agent that the platform can't send to none is made. What a history changes of the hardware is
+/// what each event changes, in order, and the hardware is asked for all of it but what it reported.
+/// What it reports is the thing's value from then on, and leaves all else but the notifications.
 pub fn every_legal_history()
     ensures bounds { (board : Board) (h : List Event) → IsLegal board h
         → HasBounds board (deeds board h) }
@@ -64,7 +70,12 @@ pub fn every_legal_history()
     ensures kept { (board : Board) (h : List Event) → IsLegal board h → KeepsOn board h }
     ensures channels { (board : Board) (h : List Event) → IsValid board → IsLegal board h
         → KeepsChannels board h }
-    ensures made { (board : Board) (h : List Event) → made_of (asks board h) ≡ effects board h }
+    ensures made { (board : Board) (h : List Event)
+        → made_of (asks board h) ≡ commanded_effects board h }
+    ensures unreported { (board : Board) (h : List Event) → All IsNoReport h
+        → commanded_effects board h ≡ effects board h }
+    ensures reports { (board : Board) (h : List Event) (effect : Effect) → IsLegal board h
+        → IsTakenOver board h effect }
     ensures effects { (board : Board) (h : List Event) (event : Event)
         → effects board (h ++ event ∷ [])
         ≡ effects board h ++ option_to_list (effect_after board h event) }

@@ -10,7 +10,7 @@ ghost use Rattle.scmi_core.specs.declared.slot.TheConstants.{SLOT_WORDS};
 
 use crate::message_ring::MessageRing;
 use crate::pending_set::Setting;
-use scmi_codec::{Header, Message};
+use scmi_codec::{Fault, Header, Message};
 use scmi_plan::AGENTS;
 use std::marker::Model;
 
@@ -143,11 +143,18 @@ impl Outboxes {
     }
 
     /// Puts the delayed response to a set that failed into its agent's outbox, if it is wanted.
-    pub fn respond_failed(&mut self, agent: u32, setting: Setting, header: Header, wanted: bool)
+    pub fn respond_failed(
+        &mut self,
+        agent: u32,
+        setting: Setting,
+        header: Header,
+        wanted: bool,
+        fault: Fault,
+    )
         requires agent { IsAgent AGENTS agent }
         requires room { length (outbox_in self.old agent) < OUTBOX_ROOM }
         ensures { (a : ℕ) → 1 ≤ a → Gets self.old self.new a
-            (failed_response_for a (record {
+            (failed_response_for a fault (record {
               agent = agent;
               setting = setting;
               header = header;
@@ -157,7 +164,7 @@ impl Outboxes {
         if !wanted {
             return;
         }
-        self.put_failed_response(agent, header);
+        self.put_failed_response(agent, header, fault);
     }
 
     /// Puts a message of this header and these payload words into an agent's outbox.

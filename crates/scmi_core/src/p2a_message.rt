@@ -9,7 +9,7 @@ ghost use Rattle.scmi_core.specs.declared.outboxes.TheConstants.{OUTBOX_ROOM};
 use crate::outboxes::Outboxes;
 use crate::pending_set::Setting;
 use scmi_codec::{
-    DELAYED_RESPONSE, Header, Message, NOTIFICATION, POWER_PROTOCOL, SUCCESS, Status, payload_of,
+    DELAYED_RESPONSE, Fault, Header, Message, NOTIFICATION, POWER_PROTOCOL, SUCCESS, payload_of,
     rate_words,
 };
 
@@ -43,31 +43,32 @@ impl Outboxes {
     }
 
     /// Puts the response to a set whose change the hardware refused into an agent's outbox.
-    pub fn put_failed_response(&mut self, agent: u32, header: Header)
+    pub fn put_failed_response(&mut self, agent: u32, header: Header, fault: Fault)
         requires agent { IsAgent AGENTS agent }
         requires room { length (outbox_in self.old agent) < OUTBOX_ROOM }
-        ensures put { Gets self.old self.new agent (failed_response_to header ∷ []) }
+        ensures put { Gets self.old self.new agent (failed_response_to header fault ∷ []) }
         ensures others { (a : ℕ) → 1 ≤ a → a ≢ agent → HasSameOutbox self.old self.new a }
     {
-        self.put(agent, delayed_header(header), &failed_words());
+        self.put(agent, delayed_header(header), &failed_words(fault));
     }
 }
 
-/// The response to a set of this header whose change the hardware refused.
-pub fn failed_response(header: Header) -> Message
-    ensures { result ≡ failed_response_to header }
+/// The response to a set of this header whose change the hardware refused with this fault.
+pub fn failed_response(header: Header, fault: Fault) -> Message
+    ensures { result ≡ failed_response_to header fault }
 {
     Message {
         header: delayed_header(header),
-        payload: payload_of(&failed_words()),
+        payload: payload_of(&failed_words(fault)),
     }
 }
 
-/// The payload words of the response to a set whose change the hardware refused: its status alone.
-fn failed_words() -> [u32; 1]
-    ensures { result ≡ failed_words }
+/// The payload words of the response to a set whose change the hardware refused: the status of the
+/// fault alone.
+fn failed_words(fault: Fault) -> [u32; 1]
+    ensures { result ≡ failed_words fault }
 {
-    [Status::HardwareError.word()]
+    [fault.status().word()]
 }
 
 /// The header of the delayed response to a command of this header.

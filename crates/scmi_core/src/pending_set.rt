@@ -3,9 +3,8 @@ ghost use Rattle.std.specs.Prelude.{◌≡◌, ◌↔◌, true};
 ghost use Rattle.scmi_core.specs.Effect.{setting_effect};
 ghost use Rattle.scmi_core.specs.Pending.{is_set_by};
 
-use crate::effect::Effect;
 use scmi_codec::Header;
-use scmi_plan::Resource;
+use scmi_plan::{Effect, Resource};
 
 /// What a set changes: a domain and its state, as the word that a reply has, or a clock and its rate
 /// in Hz.

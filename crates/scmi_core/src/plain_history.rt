@@ -1,13 +1,13 @@
-//! What a platform is without the hardware's refusals and without restarts.
+//! What a platform is without the hardware's refusals and reports, and without restarts.
 ghost use Rattle.std.specs.Prelude.{◌++◌, ◌∷◌, [], List};
 ghost use Rattle.std.specs.List.{All};
 ghost use Rattle.scmi_core.specs.Plain.{HasPlainHistory, IsPlain};
 ghost use Rattle.scmi_core.specs.Standing.{MovesOn, Standing, StandsAfter};
 ghost use Rattle.scmi_core.specs.declared.event.Event.{Event};
 
-/// Beside hardware that never refuses, and without restarts, a history has commands, advances and
-/// postings alone, and a platform is as such a history leaves it. It does nothing: its clauses are
-/// the laws.
+/// Beside hardware that never refuses and reports nothing, and without restarts, a history has
+/// commands, advances and postings alone, and a platform is as such a history leaves it. It does
+/// nothing: its clauses are the laws.
 ///
 /// `Core` and `Platform` add one event with each call. It is plain if the call is `command`,
 /// `advance` or `sent`, or if it is `command_on` or `advance_on` and the hardware never refuses

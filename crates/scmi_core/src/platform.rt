@@ -1,5 +1,5 @@
 //! The platform without its history.
-ghost use Rattle.std.specs.Prelude.{◌≡◌, ◌≢◌, ◌≤◌, ◌<◌, [], ◌↔◌, List, length, true, false, slice_get, IfOk, OnOk, OnErr, IfErr, Ok, Err};
+ghost use Rattle.std.specs.Prelude.{◌≡◌, ◌⊎◌, ◌≢◌, ◌≤◌, ◌<◌, [], ◌↔◌, List, length, true, false, slice_get, IfOk, OnOk, OnErr, IfErr, Ok, Err};
 ghost use Rattle.scmi_plan.specs.Plan.{IsValid};
 ghost use Rattle.std.specs.Option.{option_copied};
 ghost use Rattle.scmi_plan.specs.Agent.{IsAgent, IsNoAgent};
@@ -150,6 +150,8 @@ impl Platform {
         ensures nothing { (h : List Event) → StandsAfter self.old h
             → (result ≡ Err CoreError.Nothing) ↔ HasNothingFor self.old.board agent h }
         ensures memory { result ≢ Err CoreError.Memory }
+        ensures errors { IfErr result (λ e.
+            (e ≡ CoreError.NoAgent) ⊎ (e ≡ CoreError.Nothing)) }
         ensures err { OnErr result (self.new ≡ self.old) }
     {
         self.check_agent(agent)?;

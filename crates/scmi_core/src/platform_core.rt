@@ -1,5 +1,5 @@
 //! The platform controller.
-ghost use Rattle.std.specs.Prelude.{◌≡◌, ◌≢◌, ◌≤◌, ◌<◌, ◌++◌, ◌∷◌, [], ◌↔◌, length, true, false, slice_get, IsOk, IfOk, OnOk, OnErr, IfErr, Ok, Err};
+ghost use Rattle.std.specs.Prelude.{◌≡◌, ◌⊎◌, ◌≢◌, ◌≤◌, ◌<◌, ◌++◌, ◌∷◌, [], ◌↔◌, length, true, false, slice_get, IsOk, IfOk, OnOk, OnErr, IfErr, Ok, Err};
 ghost use Rattle.std.specs.Option.{option_copied};
 ghost use Rattle.scmi_plan.specs.Agent.{IsAgent, IsNoAgent};
 ghost use Rattle.scmi_plan.specs.declared.limits.TheConstants.{AGENTS};
@@ -88,6 +88,8 @@ impl Core {
             ↔ IsNoAgent (length self.old.board.agents) agent }
         ensures memory { 0 < self.old.room → result ≢ Err CoreError.Memory }
         ensures not_nothing { result ≢ Err CoreError.Nothing }
+        ensures errors { IfErr result (λ e.
+            (e ≡ CoreError.NoAgent) ⊎ (e ≡ CoreError.Memory)) }
         ensures err { OnErr result (self.new ≡ self.old) }
     {
         let mut reply = Message::default();
@@ -116,6 +118,8 @@ impl Core {
             ↔ IsNoAgent (length self.old.board.agents) agent }
         ensures memory { 0 < self.old.room → result ≢ Err CoreError.Memory }
         ensures not_nothing { result ≢ Err CoreError.Nothing }
+        ensures errors { IfErr result (λ e.
+            (e ≡ CoreError.NoAgent) ⊎ (e ≡ CoreError.Memory)) }
         ensures err { OnErr result (self.new ≡ self.old) }
         ensures kept { OnErr result (reply.new ≡ reply.old) }
     {
@@ -200,6 +204,8 @@ impl Core {
         ensures nothing { (result ≡ Err CoreError.Nothing)
             ↔ HasNothingFor self.old.board agent self.old.history }
         ensures memory { 0 < self.old.room → result ≢ Err CoreError.Memory }
+        ensures errors { IfErr result (λ e. (e ≡ CoreError.NoAgent)
+            ⊎ (e ≡ CoreError.Nothing) ⊎ (e ≡ CoreError.Memory)) }
         ensures err { OnErr result (self.new ≡ self.old) }
     {
         self.platform.check_agent(agent)?;

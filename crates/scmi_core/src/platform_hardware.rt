@@ -14,16 +14,16 @@ ghost use Rattle.scmi_core.specs.declared.event.Event.TheVariants.{Command as Ca
 
 use crate::answered::Answered;
 use crate::core_error::CoreError;
-use crate::effect::Effect;
 use crate::hardware::{Hardware, make};
 use crate::platform::Platform;
 use crate::platform_effects::set_failed_reply;
-use scmi_codec::{Frame, Message};
+use scmi_codec::{Fault, Frame, Message};
+use scmi_plan::Effect;
 
 impl Platform {
     /// As `command`, beside the hardware: what the command changes of it is made first, and if the
-    /// hardware refuses that, the command has failed, and its reply is HARDWARE_ERROR. The hardware
-    /// is not asked if the call is refused.
+    /// hardware refuses that, the command has failed, and its reply is the status of the fault. The
+    /// hardware is not asked if the call is refused.
     pub fn command_on<H: Hardware>(
         &mut self,
         hardware: &mut H,
@@ -93,11 +93,12 @@ impl Platform {
         let Some(effect) = self.effect_in(agent, frame) else {
             return self.execute(agent, frame, reply);
         };
-        if make(hardware, Some(effect)) {
-            self.commit(agent, frame, effect, reply)
-        } else {
-            self.answer_failed(agent, frame, reply);
-            Answered::Reply
+        match make(hardware, Some(effect)) {
+            Ok(()) => self.commit(agent, frame, effect, reply),
+            Err(fault) => {
+                self.answer_failed(agent, frame, fault, reply);
+                Answered::Reply
+            }
         }
     }
 
@@ -110,10 +111,9 @@ impl Platform {
         ensures board { self.new.board ≡ self.old.board }
     {
         let effect = self.effect_of_advance();
-        if make(hardware, effect) {
-            self.complete();
-        } else {
-            self.fail();
+        match make(hardware, effect) {
+            Ok(()) => self.complete(),
+            Err(fault) => self.fail(fault),
         }
     }
 
@@ -140,17 +140,17 @@ impl Platform {
         self.tables.commit(&self.plan, agent, frame, effect, reply)
     }
 
-    /// Answers a command of an agent of the board whose change the hardware refused.
-    fn answer_failed(&self, agent: u32, frame: &Frame, reply: &mut Message)
+    /// Answers a command of an agent of the board, whose change the hardware refused with a fault.
+    fn answer_failed(&self, agent: u32, frame: &Frame, fault: Fault, reply: &mut Message)
         requires agent { IsAgent (length self.now.board.agents) agent }
         requires effect { (h : List Event) → StandsAfter self.now h
             → effect_after self.now.board h (Called agent frame.now) ≢ None }
-        ensures answer { Reply reply.new ≡ failed_answer frame.now }
-        ensures event { MovesOn self.now (CommandFailed agent frame.now) self.now }
+        ensures answer { Reply reply.new ≡ failed_answer frame.now fault }
+        ensures event { MovesOn self.now (CommandFailed agent frame.now fault) self.now }
     {
         let _agents = self.plan.agents();
         if let Some(message) = self.changing(agent, frame) {
-            set_failed_reply(message, reply);
+            set_failed_reply(message, fault, reply);
         }
     }
 }

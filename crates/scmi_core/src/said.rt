@@ -4,8 +4,9 @@ ghost use Rattle.std.specs.Prelude.{◌≡◌, [], List};
 ghost use base.Fml.{ftrue};
 ghost use Rattle.scmi_core.specs.Asked.{Asked};
 
-use crate::effect::Effect;
 use crate::platform::Platform;
+use scmi_codec::Fault;
+use scmi_plan::Effect;
 use std::marker::Model;
 
 /// What has been said of the hardware, in order: each change that it made or refused.
@@ -23,12 +24,12 @@ impl Model for Said {
 pub enum Saying<'a> {
     /// The hardware made this change.
     Made(Effect),
-    /// It refused this change.
-    Refused(Effect),
+    /// It refused this change with this fault.
+    Refused(Effect, Fault),
     /// It made the change of the first pending set, if one is pending.
     Completed(&'a Platform),
-    /// It refused that change.
-    Failed(&'a Platform),
+    /// It refused that change with this fault.
+    Failed(&'a Platform, Fault),
 }
 
 impl Said {

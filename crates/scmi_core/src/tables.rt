@@ -30,8 +30,8 @@ use crate::pending_set::{PendingSet, Setting};
 use scmi_base::BaseState;
 use scmi_clock::ClockState;
 use scmi_codec::{
-    BaseCommand, ClockCommand, Command, Frame, Header, Message, Payload, PowerCommand, Status,
-    set_refusal,
+    BaseCommand, ClockCommand, Command, Fault, Frame, Header, Message, Payload, PowerCommand,
+    Status, set_refusal,
 };
 use scmi_plan::{DOMAINS, Load, Plan};
 use scmi_power::PowerState;
@@ -307,14 +307,14 @@ impl Tables {
         }
     }
 
-    /// Takes the first pending set off as failed.
-    pub fn fail(&mut self, plan: &Plan)
+    /// Takes the first pending set off as failed with this fault.
+    pub fn fail(&mut self, plan: &Plan, fault: Fault)
         requires waiting { 0 < length self.now.pending }
         requires known { All (IsOfBoard plan.now) self.now.pending }
         requires room { (a : ℕ) → 1 ≤ a → a ≤ length plan.now.agents
             → load_at self.now a ≤ OUTBOX_ROOM }
         ensures valid { IsValid plan.now }
-        ensures failed { HasFailed self.old self.new }
+        ensures failed { HasFailed fault self.old self.new }
     {
         let _agents = plan.agents();
         let failed = self.pending.pop_first();
@@ -324,7 +324,8 @@ impl Tables {
             header,
             wanted,
         } = failed;
-        self.outboxes.respond_failed(agent, setting, header, wanted);
+        self.outboxes
+            .respond_failed(agent, setting, header, wanted, fault);
     }
 
     /// Ends the requests of an agent that was reset, if one was.

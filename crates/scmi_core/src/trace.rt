@@ -4,13 +4,14 @@ ghost use Rattle.scmi_codec.specs.declared.payload.TheConstants.{PAYLOAD_WORDS};
 ghost use Rattle.scmi_plan.specs.declared.limits.TheConstants.{AGENTS};
 ghost use Rattle.scmi_core.specs.Mark.{HasAgent};
 ghost use Rattle.scmi_core.specs.Trace.{event_of, payload_count};
-ghost use Rattle.scmi_core.specs.declared.event.Event.TheVariants.{Command, Advance, Sent, CommandFailed, AdvanceFailed, Restarted};
+ghost use Rattle.scmi_core.specs.declared.event.Event.TheVariants.{Command, Advance, Sent, CommandFailed, AdvanceFailed, Restarted, Reported};
 ghost use Rattle.scmi_codec.specs.declared.frame.Frame.TheVariants.{Good};
 
 use crate::event::Event;
 use crate::events::Events;
 use crate::mark::Mark;
-use scmi_codec::{Frame, Message, PAYLOAD_WORDS};
+use scmi_codec::{Fault, Frame, Message, PAYLOAD_WORDS, rate_words};
+use scmi_plan::Effect;
 use std::alloc::{AllocError, Global};
 use std::marker::Model;
 
@@ -116,16 +117,16 @@ impl Trace {
     }
 
     /// Adds a command that failed in the room that there is.
-    pub(crate) fn push_command_failed(&mut self, agent: u32, message: &Message)
+    pub(crate) fn push_command_failed(&mut self, agent: u32, message: &Message, fault: Fault)
         requires room { 0 < self.old.room }
         requires agent { agent ≤ AGENTS }
         ensures events { self.new.events
-            ≡ self.old.events ++ CommandFailed agent (Good message.now) ∷ [] }
+            ≡ self.old.events ++ CommandFailed agent (Good message.now) fault ∷ [] }
         ensures room { self.old.room ≤ self.new.room + 1 }
     {
         let payload = message.payload.as_slice();
         self.push(
-            Mark::Failed(agent),
+            Mark::Failed(agent, fault),
             payload.len() as u32,
             message.header.pack(),
             payload,
@@ -142,12 +143,12 @@ impl Trace {
     }
 
     /// Adds the end of a set that failed in the room that there is.
-    pub(crate) fn push_advance_failed(&mut self)
+    pub(crate) fn push_advance_failed(&mut self, fault: Fault)
         requires room { 0 < self.old.room }
-        ensures events { self.new.events ≡ self.old.events ++ AdvanceFailed ∷ [] }
+        ensures events { self.new.events ≡ self.old.events ++ AdvanceFailed fault ∷ [] }
         ensures room { self.old.room ≤ self.new.room + 1 }
     {
-        self.push(Mark::AdvanceFailed, 0, 0, &[]);
+        self.push(Mark::AdvanceFailed(fault), 0, 0, &[]);
     }
 
     /// Adds the posting of a message to an agent in the room that there is.
@@ -168,6 +169,23 @@ impl Trace {
         ensures room { self.old.room ≤ self.new.room + 1 }
     {
         self.push(Mark::Restarted(agent), 0, 0, &[]);
+    }
+
+    /// Adds the report of a change that the hardware made by itself in the room that there is.
+    pub(crate) fn push_reported(&mut self, effect: Effect)
+        requires room { 0 < self.old.room }
+        ensures events { self.new.events ≡ self.old.events ++ Reported effect ∷ [] }
+        ensures room { self.old.room ≤ self.new.room + 1 }
+    {
+        match effect {
+            Effect::State { domain, state } => self.push(Mark::StateReported, domain, state, &[]),
+            Effect::Rate { clock, rate } => {
+                self.push(Mark::RateReported, clock, 0, &rate_words(rate));
+            }
+            Effect::Enabled { clock, enabled } => {
+                self.push(Mark::EnabledReported, clock, u32::from(enabled), &[]);
+            }
+        }
     }
 
     /// Adds the words of an event in the room that there is.

@@ -3,6 +3,7 @@ use Rattle.std.proofs.Common.{◌≡◌, ℕ, ◌+◌, ◌≤◌, Bool, true, fa
 use Rattle.std.specs.Prelude.{nat_eq, nat_lt, is_some}
 use Rattle.std.specs.List.{All, count_by}
 use Rattle.std.proofs.lemmas.List.Elements.{All-append, All-cons, All-nil}
+use Rattle.scmi_codec.specs.declared.fault.Fault.{Fault}
 use Rattle.scmi_codec.specs.declared.frame.Frame.{Frame}
 use Rattle.scmi_codec.specs.declared.frame.Frame.TheVariants as frame
 use Rattle.scmi_core.specs.Legal.{CanFollow, IsLegal}
@@ -72,9 +73,9 @@ module _ (board : Board) where
   command_of_board a (frame.Good m) is = one_of_board (step.Do a (call_of m)) is
   command_of_board a (frame.Malformed len header) is = malformed_of_board a len header is
 
-  refusal_of_board : (a : ℕ) (f : Frame) → IsAgent (length board.agents) a → All OfBoard (refusal_steps a f)
-  refusal_of_board a (frame.Good m) is = one_of_board (step.Fail a (call_of m)) is
-  refusal_of_board a (frame.Malformed len header) is = malformed_of_board a len header is
+  refusal_of_board : (a : ℕ) (fault : Fault) (f : Frame) → IsAgent (length board.agents) a → All OfBoard (refusal_steps a fault f)
+  refusal_of_board a fault (frame.Good m) is = one_of_board (step.Fail a fault (call_of m)) is
+  refusal_of_board a fault (frame.Malformed len header) is = malformed_of_board a len header is
 
   maybe_of_board : (a : ℕ) (of_agent : AgentStep) (does : Bool) → IsAgent (length board.agents) a → All OfBoard (cond does (step.Agent a of_agent ∷ []) [])
   maybe_of_board a of_agent true is = one_of_board (step.Agent a of_agent) is
@@ -86,9 +87,10 @@ module _ (board : Board) where
   event_of_board logs sent before (event.Sent a) may =
       let is : IsAgent (length board.agents) a = (may.0, may.1) in
       All-cons OfBoard (step.Platform a platform_step.Flush) (taking_steps logs sent a) is (maybe_of_board a agent_step.P2a (nat_lt (count_by (nat_eq a) sent) (taken_by logs a)) is)
-  event_of_board logs sent before (event.CommandFailed a f) may = refusal_of_board a f may.0
-  event_of_board logs sent before event.AdvanceFailed may = one_of_board step.AdvanceFailed tt
+  event_of_board logs sent before (event.CommandFailed a f fault) may = refusal_of_board a fault f may.0
+  event_of_board logs sent before (event.AdvanceFailed fault) may = one_of_board (step.AdvanceFailed fault) tt
   event_of_board logs sent before (event.Restarted a) may = one_of_board (step.Restart a) may
+  event_of_board logs sent before (event.Reported effect) may = one_of_board (step.Report effect) tt
 
   events_of_board : (h : List Event) → IsLegal board h → (logs : List AgentLog) (sent : List ℕ) (before after : List Event) → h ≡ before ++ after → All OfBoard (steps_after logs sent after)
   events_of_board h legal logs sent before [] parted = none_of_board

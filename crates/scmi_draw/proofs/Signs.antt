@@ -13,7 +13,7 @@ use Rattle.scmi_text.specs.declared.step.Step.TheVariants as step
 use Rattle.scmi_text.specs.declared.step_line.StepLine.{StepLine}
 use Rattle.scmi_text.specs.declared.step_line.StepLine.TheVariants as line
 use Rattle.scmi_session.specs.StepLines.{AreLinesOf}
-use Rattle.scmi_chart.specs.Signs.{Sign, answered, delayed, executed, faulted, notified, sent_sign, lane, signs_of, reply_token, is_hardware_error, outcome_of}
+use Rattle.scmi_chart.specs.Signs.{Sign, answered, delayed, executed, faulted, notified, sent_sign, lane, signs_of, reply_token, has_fault, outcome_of}
 use Rattle.scmi_chart.specs.Detail.{answer_detail, message_detail}
 use Rattle.scmi_chart.specs.Service.{line_agent, served_by, is_lane, is_served, executed_by, served_so_far, laters_after, is_later}
 use Rattle.scmi_chart.specs.Shown.{run_signs}
@@ -59,11 +59,11 @@ turned_by board b x later s (line.Served a served.Nothing) = refl
 turned_by board b x later (step.Do c call) (line.Collected a collected.Nothing) = refl
 turned_by board b x later (step.Do c call) (line.Collected a collected.Closed) = refl
 turned_by board b x later (step.Do c call) (line.Collected a (collected.Got answer)) = refl
-turned_by board b x later (step.Fail c call) (line.Collected a collected.Nothing) = refl
-turned_by board b x later (step.Fail c call) (line.Collected a collected.Closed) = refl
-turned_by board b x later (step.Fail c call) (line.Collected a (collected.Got answer)) =
-    ap (λ rest. sent_sign (x || (lane a == b)) (step.Fail c call) (lane a) (reply_token (collected.Got answer)) ∷ executed ∷ rest)
-    (fault_same b (lane a) (is_hardware_error (collected.Got answer)) (outcome_of answer later) (answer_detail answer))
+turned_by board b x later (step.Fail c fault call) (line.Collected a collected.Nothing) = refl
+turned_by board b x later (step.Fail c fault call) (line.Collected a collected.Closed) = refl
+turned_by board b x later (step.Fail c fault call) (line.Collected a (collected.Got answer)) =
+    ap (λ rest. sent_sign (x || (lane a == b)) (step.Fail c fault call) (lane a) (reply_token (collected.Got answer)) ∷ executed ∷ rest)
+    (fault_same b (lane a) (has_fault fault (collected.Got answer)) (outcome_of answer later) (answer_detail answer))
 turned_by board b x later (step.Agent c call) (line.Collected a collected.Nothing) = refl
 turned_by board b x later (step.Agent c call) (line.Collected a collected.Closed) = refl
 turned_by board b x later (step.Agent c call) (line.Collected a (collected.Got answer)) = refl
@@ -73,15 +73,20 @@ turned_by board b x later (step.Platform c call) (line.Collected a (collected.Go
 turned_by board b x later step.Advance (line.Collected a collected.Nothing) = refl
 turned_by board b x later step.Advance (line.Collected a collected.Closed) = refl
 turned_by board b x later step.Advance (line.Collected a (collected.Got answer)) = refl
-turned_by board b x later step.AdvanceFailed (line.Collected a collected.Nothing) = refl
-turned_by board b x later step.AdvanceFailed (line.Collected a collected.Closed) = refl
-turned_by board b x later step.AdvanceFailed (line.Collected a (collected.Got answer)) = refl
+turned_by board b x later (step.AdvanceFailed fault) (line.Collected a collected.Nothing) = refl
+turned_by board b x later (step.AdvanceFailed fault) (line.Collected a collected.Closed) = refl
+turned_by board b x later (step.AdvanceFailed fault) (line.Collected a (collected.Got answer)) = refl
+turned_by board b x later (step.Report effect) (line.Collected a collected.Nothing) = refl
+turned_by board b x later (step.Report effect) (line.Collected a collected.Closed) = refl
+turned_by board b x later (step.Report effect) (line.Collected a (collected.Got answer)) = refl
 turned_by board b x later (step.Restart c) (line.Collected a collected.Nothing) = refl
 turned_by board b x later (step.Restart c) (line.Collected a collected.Closed) = refl
 turned_by board b x later (step.Restart c) (line.Collected a (collected.Got answer)) = refl
 turned_by board b x later s (line.Advanced more) = refl
 turned_by board b x later s (line.AdvanceFailed true) = refl
 turned_by board b x later s (line.AdvanceFailed false) = refl
+turned_by board b x later s (line.Reported true) = refl
+turned_by board b x later s (line.Reported false) = refl
 turned_by board b x later s (line.Flushed a flushed.Nothing) = refl
 turned_by board b x later s (line.Flushed a flushed.Waiting) = refl
 turned_by board b x later s (line.Flushed a flushed.Posted) = refl

@@ -1,6 +1,7 @@
 -- The steps that draw what a run of agents in threads left.
 use Rattle.std.specs.Prelude.{ℕ, ◌+◌, ◌-◌, nat_eq, nat_lt, if◌then◌else◌, List, [], ◌∷◌, ◌++◌, length, slice_get, Some, None, is_some}
 use Rattle.std.specs.List.{count_by}
+use Rattle.scmi_codec.specs.declared.fault.Fault.{Fault}
 use Rattle.scmi_codec.specs.declared.frame.Frame.{Frame}
 use Rattle.scmi_codec.specs.declared.frame.Frame.TheVariants as frame
 use Rattle.scmi_codec.specs.declared.message.Message.{Message}
@@ -27,10 +28,10 @@ abbrev pub command_steps : ℕ → Frame → List Step
 command_steps a (frame.Good m) = step.Do a (call_of m) ∷ []
 command_steps a (frame.Malformed len header) = malformed_steps a len header
 
--- the steps of a command whose change the hardware refused
-abbrev pub refusal_steps : ℕ → Frame → List Step
-refusal_steps a (frame.Good m) = step.Fail a (call_of m) ∷ []
-refusal_steps a (frame.Malformed len header) = malformed_steps a len header
+-- the steps of a command whose change the hardware refused with this fault
+abbrev pub refusal_steps : ℕ → Fault → Frame → List Step
+refusal_steps a fault (frame.Good m) = step.Fail a fault (call_of m) ∷ []
+refusal_steps a fault (frame.Malformed len header) = malformed_steps a len header
 
 -- how many messages an agent took, by its log
 abbrev pub taken_by : List AgentLog → ℕ → ℕ
@@ -40,14 +41,15 @@ taken_by logs a = elim (slice_get logs (a - 1)) [ None ↦ 0 | Some log ↦ leng
 abbrev pub taking_steps : List AgentLog → List ℕ → ℕ → List Step
 taking_steps logs sent a = if nat_lt (count_by (nat_eq a) sent) (taken_by logs a) then step.Agent a agent_step.P2a ∷ [] else []
 
--- the steps of an event, after messages were posted to these agents: a command is posted, served and collected; an advance is one; a message that is posted is a flush, and the agent takes it if its log has it; the restart of an agent is one
+-- the steps of an event, after messages were posted to these agents: a command is posted, served and collected; an advance is one; a message that is posted is a flush, and the agent takes it if its log has it; the restart of an agent is one; a report of the hardware is one
 abbrev pub steps_of_event : List AgentLog → List ℕ → Event → List Step
 steps_of_event logs sent (event.Command a frame) = command_steps a frame
-steps_of_event logs sent (event.CommandFailed a frame) = refusal_steps a frame
+steps_of_event logs sent (event.CommandFailed a frame fault) = refusal_steps a fault frame
 steps_of_event logs sent event.Advance = step.Advance ∷ []
-steps_of_event logs sent event.AdvanceFailed = step.AdvanceFailed ∷ []
+steps_of_event logs sent (event.AdvanceFailed fault) = step.AdvanceFailed fault ∷ []
 steps_of_event logs sent (event.Sent a) = step.Platform a platform_step.Flush ∷ taking_steps logs sent a
 steps_of_event logs sent (event.Restarted a) = step.Restart a ∷ []
+steps_of_event logs sent (event.Reported effect) = step.Report effect ∷ []
 
 -- the agent to which an event posted a message, if it did
 abbrev pub receivers : Event → List ℕ

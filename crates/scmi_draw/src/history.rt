@@ -46,18 +46,19 @@ fn add_event(
             let (agent, call) = (*agent, call_of(message));
             add(steps, Step::Do { agent, call })
         }
-        Event::CommandFailed(agent, Frame::Good(message)) => {
-            let (agent, call) = (*agent, call_of(message));
-            add(steps, Step::Fail { agent, call })
+        Event::CommandFailed(agent, Frame::Good(message), fault) => {
+            let (agent, fault, call) = (*agent, *fault, call_of(message));
+            add(steps, Step::Fail { agent, fault, call })
         }
         Event::Command(agent, Frame::Malformed { length, header })
-        | Event::CommandFailed(agent, Frame::Malformed { length, header }) => {
+        | Event::CommandFailed(agent, Frame::Malformed { length, header }, _) => {
             add_malformed(steps, *agent, *length, *header)
         }
         Event::Advance => add(steps, Step::Advance),
-        Event::AdvanceFailed => add(steps, Step::AdvanceFailed),
+        Event::AdvanceFailed(fault) => add(steps, Step::AdvanceFailed { fault: *fault }),
         Event::Sent(agent) => add_message(steps, sent, logs, *agent),
         Event::Restarted(agent) => add(steps, Step::Restart { agent: *agent }),
+        Event::Reported(effect) => add(steps, Step::Report { effect: *effect }),
     }
 }
 

@@ -1,6 +1,7 @@
 //! A step as the line of a script.
 
-use scmi_codec::Header;
+use scmi_codec::{Fault, Header, rate_words};
+use scmi_plan::Effect;
 use scmi_text::{AgentStep, Call, PlatformStep, Step};
 use std::fmt;
 
@@ -17,8 +18,9 @@ impl fmt::Display for StepText<'_> {
             Step::Platform { agent, step } => write!(f, "{} {agent}", word_of(*step)),
             Step::Do { agent, call } => write_call(f, "do", *agent, call),
             Step::Advance => f.write_str("advance"),
-            Step::Fail { agent, call } => write_call(f, "fail", *agent, call),
-            Step::AdvanceFailed => f.write_str("advance failed"),
+            Step::Fail { agent, fault, call } => write_refused(f, *agent, *fault, call),
+            Step::AdvanceFailed { fault } => write_advance_refused(f, *fault),
+            Step::Report { effect } => write_report(f, *effect),
             Step::Restart { agent } => write!(f, "restart {agent}"),
         }
     }
@@ -59,10 +61,61 @@ fn write_call<W: fmt::Write>(
     agent: u32,
     call: &Call,
 ) -> fmt::Result {
+    write!(f, "{word} {agent} ")?;
+    write_command(f, call)
+}
+
+fn write_command<W: fmt::Write>(f: &mut fmt::Formatter<W>, call: &Call) -> fmt::Result {
     let protocol = call.protocol;
     let message = call.message;
-    write!(f, "{word} {agent} 0x{protocol:x} 0x{message:x}")?;
+    write!(f, "0x{protocol:x} 0x{message:x}")?;
     write_words(f, call.payload.as_slice())
+}
+
+/// A command beside hardware that refuses: HARDWARE_ERROR is the status of `fail`.
+fn write_refused<W: fmt::Write>(
+    f: &mut fmt::Formatter<W>,
+    agent: u32,
+    fault: Fault,
+    call: &Call,
+) -> fmt::Result {
+    match fault {
+        Fault::HardwareError => write_call(f, "fail", agent, call),
+        _ => {
+            let status = fault.status();
+            let name = status.name();
+            write!(f, "refuse {agent} {name} ")?;
+            write_command(f, call)
+        }
+    }
+}
+
+fn write_advance_refused<W: fmt::Write>(f: &mut fmt::Formatter<W>, fault: Fault) -> fmt::Result {
+    match fault {
+        Fault::HardwareError => f.write_str("advance failed"),
+        _ => {
+            let status = fault.status();
+            let name = status.name();
+            write!(f, "advance refused {name}")
+        }
+    }
+}
+
+fn write_report<W: fmt::Write>(f: &mut fmt::Formatter<W>, effect: Effect) -> fmt::Result {
+    match effect {
+        Effect::State { domain, state } => {
+            write!(f, "report state {domain}")?;
+            write_words(f, &[state])
+        }
+        Effect::Rate { clock, rate } => {
+            write!(f, "report rate {clock}")?;
+            write_words(f, &rate_words(rate))
+        }
+        Effect::Enabled { clock, enabled } => {
+            write!(f, "report enabled {clock}")?;
+            write_words(f, &[u32::from(enabled)])
+        }
+    }
 }
 
 /// The payload words: digits as they are, other numbers in hexadecimal.

@@ -12,10 +12,12 @@ use Rattle.scmi_link.specs.Calls.{Collects}
 use Rattle.scmi_link.specs.declared.collected.Collected.{Collected}
 use Rattle.scmi_link.specs.declared.collected.Collected.TheVariants as collected
 use Rattle.scmi_core.specs.declared.event.Event.{Event}
-use Rattle.scmi_core.specs.declared.event.Event.TheVariants.{Command, Advance, Sent, CommandFailed, AdvanceFailed, Restarted}
+use Rattle.scmi_core.specs.declared.event.Event.TheVariants.{Command, Advance, Sent, CommandFailed, AdvanceFailed, Restarted, Reported}
+use Rattle.scmi_codec.specs.declared.fault.Fault.{Fault}
 use Rattle.scmi_core.specs.declared.core_error.CoreError.{CoreError}
 use Rattle.scmi_core.specs.Platform.{Platform}
 use Rattle.scmi_plan.specs.Board.{Board}
+use Rattle.scmi_plan.specs.declared.effect.Effect.{Effect}
 use Rattle.scmi_core.specs.Agents.{answers_to, frames_of}
 use Rattle.scmi_core.specs.History.{answer_of_event, answer_to, delivered_messages}
 use Rattle.scmi_core.specs.Outbox.{is_sent_by}
@@ -24,7 +26,7 @@ use Rattle.scmi_core.specs.Legal.{IsLegal}
 use Rattle.scmi_core.specs.Asked.{Asked}
 use Rattle.scmi_core.specs.Driven.{HappensOn, HasMade, IsCommandOf, IsEnd, asks}
 use Rattle.scmi_core.proofs.EffectsMade.{made-on}
-use Rattle.scmi_core.proofs.Laws.{frames_failed_own, frames_failed_other, answers_failed_own, answers_failed_other, advance_failed, frames_own, frames_other, answers_own, answers_other, IsQuiet, advance, restarted, sent_to, frames_quiet, answers_quiet, delivered_kept, delivered_sent, delivered_other, as_many}
+use Rattle.scmi_core.proofs.Laws.{frames_failed_own, frames_failed_other, answers_failed_own, answers_failed_other, advance_failed, frames_own, frames_other, answers_own, answers_other, IsQuiet, advance, reported, restarted, sent_to, frames_quiet, answers_quiet, delivered_kept, delivered_sent, delivered_other, as_many}
 use Rattle.scmi_script.specs.declared.served.Served.{Served}
 use Rattle.scmi_script.specs.declared.served.Served.TheVariants as served
 use Rattle.scmi_script.specs.declared.flushed.Flushed.{Flushed}
@@ -165,12 +167,12 @@ module _ {D : Type 0} (f : D → CalleeView) (board : Board) (a i : ℕ) (ds : L
       (λ b ne. frames_other b a h frame ne) (λ b ne. answers_other board b a h frame ne) (λ b. refl)
 
   -- one that failed
-  agrees_failed : (frame : Frame) → IsLegal board (h ++ CommandFailed a frame ∷ []) → callee_knows_close (f x) ≡ false
-      → f d ≡ record (f x) { taken = (f x).taken ++ frame ∷ []; answered = (f x).answered ++ failed_answer frame ∷ []; takes = one_more (f x).takes }
-      → EndsAgree board (h ++ CommandFailed a frame ∷ []) (map f (set ds i d)) cs ps
-  agrees_failed frame legal unclosed end =
-      agrees_frame (CommandFailed a frame) frame (failed_answer frame) legal unclosed end (frames_failed_own a h frame) (answers_failed_own board a h frame)
-      (λ b ne. frames_failed_other b a h frame ne) (λ b ne. answers_failed_other board b a h frame ne) (λ b. refl)
+  agrees_failed : (frame : Frame) (fault : Fault) → IsLegal board (h ++ CommandFailed a frame fault ∷ []) → callee_knows_close (f x) ≡ false
+      → f d ≡ record (f x) { taken = (f x).taken ++ frame ∷ []; answered = (f x).answered ++ failed_answer frame fault ∷ []; takes = one_more (f x).takes }
+      → EndsAgree board (h ++ CommandFailed a frame fault ∷ []) (map f (set ds i d)) cs ps
+  agrees_failed frame fault legal unclosed end =
+      agrees_frame (CommandFailed a frame fault) frame (failed_answer frame fault) legal unclosed end (frames_failed_own a h frame fault) (answers_failed_own board a h frame fault)
+      (λ b ne. frames_failed_other b a h frame fault ne) (λ b ne. answers_failed_other board b a h frame fault ne) (λ b. refl)
 
   -- an agent is served
   pub agrees_serve : (h' : List Event) (r : Served) → IsLegal board h' → ServesOne board a h (f x) r h' (f d) → EndsAgree board h' (map f (set ds i d)) cs ps
@@ -195,9 +197,9 @@ module _ {D : Type 0} (f : D → CalleeView) (board : Board) (a i : ℕ) (ds : L
         by event (inl is) answered l =
             subst (λ v. EndsAgree board (h ++ v ∷ []) (map f (set ds i d)) cs ps) (sym is)
             (agrees_command s.frame (subst (λ v. IsLegal board (h ++ v ∷ [])) is l) s.unclosed (with_answer (answer_to board a s.frame h) (subst (λ v. answer_of_event board h v ≡ Some s.answer) is answered)))
-        by event (inr is) answered l =
+        by event (inr (fault, is)) answered l =
             subst (λ v. EndsAgree board (h ++ v ∷ []) (map f (set ds i d)) cs ps) (sym is)
-            (agrees_failed s.frame (subst (λ v. IsLegal board (h ++ v ∷ [])) is l) s.unclosed (with_answer (failed_answer s.frame) (subst (λ v. answer_of_event board h v ≡ Some s.answer) is answered)))
+            (agrees_failed s.frame fault (subst (λ v. IsLegal board (h ++ v ∷ [])) is l) s.unclosed (with_answer (failed_answer s.frame fault) (subst (λ v. answer_of_event board h v ≡ Some s.answer) is answered)))
 
 -- hardware that was asked for what belongs to the history goes on having been asked for it
 pub made_serve : (board : Board) (a : ℕ) (h h' : List Event) (asked asked' : List Asked → Type 0) (before : List Asked) (old new : CalleeView) (r : Served) → ServesOneOn board a h asked old r h' asked' new
@@ -228,16 +230,27 @@ agrees_advance board h vs cs ps kept legal = agrees_quiet board h Advance vs cs 
 agrees_end_of : (board : Board) (h : List Event) (event : Event) (vs : List CalleeView) (cs : List CallerView) (ps : List (Option ℕ)) → IsEnd event → EndsAgree board h vs cs ps → IsLegal board (h ++ event ∷ []) → EndsAgree board (h ++ event ∷ []) vs cs ps
 agrees_end_of board h event vs cs ps (inl is) kept legal =
     subst (λ v. EndsAgree board (h ++ v ∷ []) vs cs ps) (sym is) (agrees_advance board h vs cs ps kept (subst (λ v. IsLegal board (h ++ v ∷ [])) is legal))
-agrees_end_of board h event vs cs ps (inr is) kept legal =
+agrees_end_of board h event vs cs ps (inr (fault, is)) kept legal =
     subst (λ v. EndsAgree board (h ++ v ∷ []) vs cs ps) (sym is)
-    (agrees_quiet board h AdvanceFailed vs cs ps advance_failed (λ b. refl) kept (subst (λ v. IsLegal board (h ++ v ∷ [])) is legal))
+    (agrees_quiet board h (AdvanceFailed fault) vs cs ps (advance_failed fault) (λ b. refl) kept (subst (λ v. IsLegal board (h ++ v ∷ [])) is legal))
+
+-- what a call of `Core` leaves that adds a quiet event that posts nothing, or is refused
+agrees_after_quiet : (old new : Platform) (e : Event) (vs : List CalleeView) (cs : List CallerView) (ps : List (Option ℕ)) (r : Result (Unit {0}) CoreError) → IsQuiet e → ((b : ℕ) → is_sent_by b e ≡ false)
+    → EndsAgree old.board old.history vs cs ps → new.board ≡ old.board → IsLegal new.board new.history
+    → OnOk r (new.history ≡ old.history ++ e ∷ []) → OnErr r (new ≡ old) → EndsAgree new.board new.history vs cs ps
+agrees_after_quiet old new e vs cs ps (Ok done) quiet unsent kept eb legal event err =
+    rw eb (subst (λ k. EndsAgree old.board k vs cs ps) (sym event) (agrees_quiet old.board old.history e vs cs ps quiet unsent kept (subst (λ k. IsLegal old.board k) event (rw eb at legal))))
+agrees_after_quiet old new e vs cs ps (Err error) quiet unsent kept eb legal event err = subst (λ p. EndsAgree p.board p.history vs cs ps) (sym err) kept
 
 -- what `Core::restart` leaves, whatever it answers
 pub agrees_after_restart : (old new : Platform) (a : ℕ) (vs : List CalleeView) (cs : List CallerView) (ps : List (Option ℕ)) (r : Result (Unit {0}) CoreError) → EndsAgree old.board old.history vs cs ps → new.board ≡ old.board → IsLegal new.board new.history
     → OnOk r (new.history ≡ old.history ++ Restarted a ∷ []) → OnErr r (new ≡ old) → EndsAgree new.board new.history vs cs ps
-agrees_after_restart old new a vs cs ps (Ok done) kept eb legal event err =
-    rw eb (subst (λ k. EndsAgree old.board k vs cs ps) (sym event) (agrees_quiet old.board old.history (Restarted a) vs cs ps (restarted a) (λ b. refl) kept (subst (λ k. IsLegal old.board k) event (rw eb at legal))))
-agrees_after_restart old new a vs cs ps (Err e) kept eb legal event err = subst (λ p. EndsAgree p.board p.history vs cs ps) (sym err) kept
+agrees_after_restart old new a vs cs ps r kept eb legal event err = agrees_after_quiet old new (Restarted a) vs cs ps r (restarted a) (λ b. refl) kept eb legal event err
+
+-- what `Core::report` leaves, whatever it answers
+pub agrees_after_report : (old new : Platform) (effect : Effect) (vs : List CalleeView) (cs : List CallerView) (ps : List (Option ℕ)) (r : Result (Unit {0}) CoreError) → EndsAgree old.board old.history vs cs ps → new.board ≡ old.board → IsLegal new.board new.history
+    → OnOk r (new.history ≡ old.history ++ Reported effect ∷ []) → OnErr r (new ≡ old) → EndsAgree new.board new.history vs cs ps
+agrees_after_report old new effect vs cs ps r kept eb legal event err = agrees_after_quiet old new (Reported effect) vs cs ps r (reported effect) (λ b. refl) kept eb legal event err
 
 -- what `Core::advance_on` leaves, whatever it answers
 pub agrees_after_on : (old new : Platform) (asked asked' : List Asked → Type 0) (vs : List CalleeView) (cs : List CallerView) (ps : List (Option ℕ)) (r : Result Bool CoreError) → EndsAgree old.board old.history vs cs ps → new.board ≡ old.board → IsLegal new.board new.history

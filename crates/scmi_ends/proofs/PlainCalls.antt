@@ -1,14 +1,14 @@
 -- What serving an agent and flushing its outbox add to a history of plain events.
-use Rattle.std.proofs.Common.{◌≡◌, ℕ, Bool, List, [], ◌∷◌, ◌++◌, Result, Ok, Err, OnOk, OnErr, refl, sym, ap, subst, ◌∙◌}
+use Rattle.std.proofs.Common.{◌≡◌, ℕ, Bool, List, [], ◌∷◌, ◌++◌, None, Result, Ok, Err, OnOk, OnErr, refl, sym, ap, subst, ◌∙◌}
 use Rattle.std.specs.List.{All}
 use Rattle.std.proofs.lemmas.List.Elements.{All-push}
 use Rattle.scmi_core.proofs.EffectsMade.{asks-stay}
-use Rattle.scmi_core.specs.Driven.{asks}
+use Rattle.scmi_core.specs.Driven.{ask_after, asks}
 use Rattle.scmi_core.specs.Platform.{Platform}
 use Rattle.scmi_core.specs.declared.core_error.CoreError.{CoreError}
 use Rattle.scmi_core.specs.Plain.{IsPlain}
 use Rattle.scmi_core.specs.declared.event.Event.{Event}
-use Rattle.scmi_core.specs.declared.event.Event.TheVariants.{Command, Restarted, Sent}
+use Rattle.scmi_core.specs.declared.event.Event.TheVariants.{Command, Reported, Restarted, Sent}
 use Rattle.scmi_script.specs.declared.flushed.Flushed.{Flushed}
 use Rattle.scmi_script.specs.declared.flushed.Flushed.TheVariants as flushed
 use Rattle.scmi_script.specs.declared.served.Served.{Served}
@@ -18,6 +18,7 @@ use Rattle.scmi_ends.specs.Flush.{Flushes, FlushesOne}
 use Rattle.scmi_ends.specs.Serve.{Serves, ServesOne}
 use Rattle.scmi_link.specs.View.{CallerView, CalleeView}
 use Rattle.scmi_plan.specs.Board.{Board}
+use Rattle.scmi_plan.specs.declared.effect.Effect.{Effect}
 
 pub one_more_event : (P : Event → Type 0) (h h' : List Event) (e : Event) → h' ≡ h ++ e ∷ [] → P e → All P h → All P h'
 one_more_event P h h' e is p all = subst (All P) (sym is) (All-push P h e all p)
@@ -48,11 +49,21 @@ flushed_asks full board a h h' v w flushed.Nothing s = ap (asks board) s.0
 flushed_asks full board a h h' v w flushed.Closed s = ap (asks board) s.0
 flushed_asks full board a h h' v w flushed.Posted s = ap (asks board) s.event ∙ asks-stay board h (Sent a) refl
 
--- nor by the restart of an agent, whatever it answers
-pub restarted_asks : (old new : Platform) (a : ℕ) (r : Result (Unit {0}) CoreError) → new.board ≡ old.board → OnOk r (new.history ≡ old.history ++ Restarted a ∷ []) → OnErr r (new ≡ old)
+-- nor by a call of `Core` that adds an event at which it is asked for nothing, or is refused
+asked_after : (old new : Platform) (e : Event) (r : Result (Unit {0}) CoreError) → ask_after old.board old.history e ≡ None → new.board ≡ old.board → OnOk r (new.history ≡ old.history ++ e ∷ []) → OnErr r (new ≡ old)
     → asks new.board new.history ≡ asks old.board old.history
-restarted_asks old new a (Ok done) eb event err =
+asked_after old new e (Ok done) none eb event err =
     ap (λ board. asks board new.history) eb
     ∙ ap (asks old.board) event
-    ∙ asks-stay old.board old.history (Restarted a) refl
-restarted_asks old new a (Err e) eb event err = ap (λ p. asks p.board p.history) err
+    ∙ asks-stay old.board old.history e none
+asked_after old new e (Err error) none eb event err = ap (λ p. asks p.board p.history) err
+
+-- such as the restart of an agent
+pub restarted_asks : (old new : Platform) (a : ℕ) (r : Result (Unit {0}) CoreError) → new.board ≡ old.board → OnOk r (new.history ≡ old.history ++ Restarted a ∷ []) → OnErr r (new ≡ old)
+    → asks new.board new.history ≡ asks old.board old.history
+restarted_asks old new a r eb event err = asked_after old new (Restarted a) r refl eb event err
+
+-- or the report of a change that it made by itself
+pub reported_asks : (old new : Platform) (effect : Effect) (r : Result (Unit {0}) CoreError) → new.board ≡ old.board → OnOk r (new.history ≡ old.history ++ Reported effect ∷ []) → OnErr r (new ≡ old)
+    → asks new.board new.history ≡ asks old.board old.history
+reported_asks old new effect r eb event err = asked_after old new (Reported effect) r refl eb event err

@@ -111,8 +111,8 @@ impl<C: Channel> Controller<C> {
     }
 
     /// As `serve`, beside the hardware: what the command changes of it is made first, and if the
-    /// hardware refuses that, the command has failed, and its reply is HARDWARE_ERROR. The hardware
-    /// is not asked if the call is refused.
+    /// hardware refuses that, the command has failed, and its reply is the status of the fault. The
+    /// hardware is not asked if the call is refused.
     pub fn serve_on<H: Hardware>(
         &mut self,
         links: &[Link<C>],
@@ -153,8 +153,8 @@ impl<C: Channel> Controller<C> {
     }
 
     /// As `advance`, beside the hardware: what the completion changes of it is made first, and if
-    /// the hardware refuses that, the set ends as failed. The hardware is not asked if the call is
-    /// refused.
+    /// the hardware refuses that, the set ends as failed with its fault. The hardware is not asked
+    /// if the call is refused.
     pub fn advance_on<H: Hardware>(&mut self, hardware: &mut H) -> Result<bool, ServeError>
         ensures agrees { IsInStep self.new }
         ensures board { self.new.board ≡ self.old.board }

@@ -17,6 +17,7 @@ mod lives;
 mod pause;
 mod plain_calls;
 mod processors;
+mod report;
 mod restart;
 mod retire;
 mod serve;

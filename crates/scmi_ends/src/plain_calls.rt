@@ -1,4 +1,5 @@
-//! What a controller adds to a history without the hardware's refusals and without restarts.
+//! What a controller adds to a history without the hardware's refusals and reports, and without
+//! restarts.
 ghost use Rattle.std.specs.Prelude.{ℕ, Bool};
 ghost use Rattle.std.specs.List.{All};
 ghost use Rattle.scmi_core.specs.Plain.{IsPlain};
@@ -8,12 +9,12 @@ ghost use Rattle.scmi_ends.specs.ControllerView.{ControllerView};
 ghost use Rattle.scmi_ends.specs.Flush.{Flushes};
 ghost use Rattle.scmi_ends.specs.Serve.{Serves};
 
-/// Beside hardware that never refuses, and without restarts, the history of a controller has
-/// commands, advances and postings alone. It does nothing: its clauses are the laws.
+/// Beside hardware that never refuses and reports nothing, and without restarts, the history of a
+/// controller has commands, advances and postings alone. It does nothing: its clauses are the laws.
 ///
 /// `serve`, and `serve_on` if the hardware never refuses (`obeyed`), add a command or nothing, and
 /// `flush` a posting or nothing. `advance`, and `advance_on` if the hardware never refuses, add an
-/// advance or nothing. `restart` alone adds a restart.
+/// advance or nothing. `restart` alone adds a restart, and `report` alone a report.
 pub fn every_plain_call()
     ensures serves { (a : ℕ) (old : ControllerView) (served : Served) (new : ControllerView)
         → Serves a old served new → All IsPlain old.history → All IsPlain new.history }

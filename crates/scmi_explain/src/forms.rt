@@ -59,9 +59,11 @@ const KEEP: &str = "keep domain|clock N";
 
 const DENY: &str = "deny AGENT DEVICE [PROTOCOL]";
 
+const ABSENT: &str = "absent domain|clock N";
+
 /// The lines behind these rows, in the modes that take them. Of the forms of a line the longest is
 /// first: its fault says which word may come next, where a shorter one says that none may.
-pub(crate) const LINES_BEHIND: [Form; 8] = forms![
+pub(crate) const LINES_BEHIND: [Form; 11] = forms![
     "channel" [Field::Agent, Field::Bytes, Field::Either("one-way", "pending"),
         Field::Word("pending"), Field::Share] false CHANNEL;
     "channel" [Field::Agent, Field::Bytes, Field::Word("pending"), Field::Share] false CHANNEL;
@@ -71,6 +73,9 @@ pub(crate) const LINES_BEHIND: [Form; 8] = forms![
     "keep" [Field::Either("clock", "domain"), Field::Numbered(Kind::Clocks)] false KEEP;
     "deny" [Field::Agent, Field::Numbered(Kind::Devices), Field::Protocol] false DENY;
     "deny" [Field::Agent, Field::Numbered(Kind::Devices)] false DENY;
+    "absent" [Field::Either("domain", "clock"), Field::Numbered(Kind::Domains)] false ABSENT;
+    "absent" [Field::Either("clock", "domain"), Field::Numbered(Kind::Clocks)] false ABSENT;
+    "free" [Field::Word("clock"), Field::Numbered(Kind::Clocks)] false "free clock N";
 ];
 
 /// The lines of a script on one thread.

@@ -153,7 +153,7 @@ impl What<'_> {
             What::ChannelOrder =>
                 "lines for channels come in rising order of agents, once for an agent",
             What::RowBehind =>
-                "lines channel, keep and deny come after all other lines, right before end",
+                "lines channel, keep, deny, absent and free come after all other lines, right before end",
             What::NoEnd => "the last line of the board, end, is missing",
             What::NoArea =>
                 "the area is missing: after the mode comes a line of 568 hexadecimal digits",

@@ -11,7 +11,8 @@ use Rattle.scmi_core.specs.declared.event.Event.TheVariants.{Command, CommandFai
 use Rattle.scmi_codec.specs.declared.frame.Frame.{Frame}
 use Rattle.scmi_core.specs.Legal.{CanFollow, IsLegal}
 use Rattle.scmi_core.proofs.Legal.{IsLegal-front, IsLegal-last}
-use Rattle.scmi_judge.specs.Behind.{Behind, Fits, IsAnswered}
+use Rattle.scmi_codec.specs.declared.fault.Fault.TheVariants.{HardwareError}
+use Rattle.scmi_judge.specs.Behind.{Behind, FailsPlainly, Fits, IsAnswered}
 use Rattle.scmi_judge.specs.Exact.{AreClosed, AreTried, AreTriedActs, EndsShown, HaveGrown, HaveKept, IsKept, IsTried, IsTriedAbove, IsTriedWhole}
 use Rattle.scmi_judge.specs.Guess.{CanCome, CanMove, CannotCome, GoesOn, IsAmong, IsGuess, IsReal, command_at}
 use Rattle.scmi_judge.specs.declared.entry.Entry.{Entry}
@@ -233,27 +234,30 @@ pub tried-whole : (may : Unseen) (g : Guess) (guesses : List Guess) → IsTried 
 tried-whole may g guesses completes fails acts board entries h
     (Move.happens event.Advance) guess can = completes board entries h _ refl guess can
 tried-whole may g guesses completes fails acts board entries h
-    (Move.happens event.AdvanceFailed) guess can = fails board entries h _ refl guess can
+    (Move.happens (event.AdvanceFailed fault)) guess can =
+    fails board entries h _ (ap (λ x. Move.happens (event.AdvanceFailed x)) can.unseen.0) guess can
 tried-whole may g guesses completes fails acts board entries h
     (Move.happens (event.Sent a)) guess can =
     acts act.Post a (let one = can.follows.0 in omega (arith, one)) board entries h _ refl guess can
 tried-whole may g guesses completes fails acts board entries h
     (Move.happens (event.Command a f)) guess can = absurd can.unseen
 tried-whole may g guesses completes fails acts board entries h
-    (Move.happens (event.CommandFailed a f)) guess can = absurd can.unseen
+    (Move.happens (event.CommandFailed a f fault)) guess can = absurd can.unseen
 tried-whole may g guesses completes fails acts board entries h
     (Move.happens (event.Restarted a)) guess can =
     acts act.Restart a (let one = can.follows.0 in omega (arith, one))
     board entries h _ refl guess can
+tried-whole may g guesses completes fails acts board entries h
+    (Move.happens (event.Reported effect)) guess can = absurd can.unseen
 tried-whole may g guesses completes fails acts board entries h (Move.asks k a f) guess can =
     absurd can.unseen
 tried-whole may g guesses completes fails acts board entries h (Move.frees k) guess can =
     absurd can.unseen
 tried-whole may g guesses completes fails acts board entries h (Move.executes k e x) guess can =
-    by can.unseen.3 where
-      by : IsAnswered board (history h) can.unseen.0 can.unseen.1 e x
+    by can.unseen.3 can.unseen.4 where
+      by : IsAnswered board (history h) can.unseen.0 can.unseen.1 e x → FailsPlainly e
           → IsAmong may board entries (Move.executes k e x ∷ h) guesses
-      by (inl done) =
+      by (inl done) plain =
           acts act.Execute (suc k) (omega arith) board entries h _ (
             can.unseen.0,
             can.unseen.1,
@@ -261,13 +265,16 @@ tried-whole may g guesses completes fails acts board entries h (Move.executes k 
             ap (λ y. Move.executes k y x) done.0
                 ∙ ap (λ n. Move.executes n (Command can.unseen.0 can.unseen.1) x) (before k),
           ) guess can
-      by (inr failed) =
+      by (inr failed) plain =
           acts act.Fail (suc k) (omega arith) board entries h _ (
             can.unseen.0,
             can.unseen.1,
             x,
-            ap (λ y. Move.executes k y x) failed.0
-                ∙ ap (λ n. Move.executes n (CommandFailed can.unseen.0 can.unseen.1) x) (before k),
+            ap (λ y. Move.executes k y x) failed.1
+                ∙ ap (λ y. Move.executes k (CommandFailed can.unseen.0 can.unseen.1 y) x)
+                (subst FailsPlainly failed.1 plain)
+                ∙ ap (λ n. Move.executes n
+                (CommandFailed can.unseen.0 can.unseen.1 HardwareError) x) (before k),
           ) guess can
 
 -- one more of a list of acts was tried
@@ -372,17 +379,17 @@ legal-move board h (Move.executes k e x) legal = IsLegal-last board (history h) 
 legal-move board h (Move.frees k) legal = tt
 
 -- and so are those before an entry
-pub legal-front : (board : Board) (entries : List Entry) (h after : List Move) (entry : Entry)
-    → Fits board entries h entry after → IsLegal board (history after) → IsLegal board (history h)
-legal-front board entries h after (Answered a f x) fits legal =
+pub legal-front : (may : Unseen) (board : Board) (entries : List Entry) (h after : List Move) (entry : Entry)
+    → Fits may board entries h entry after → IsLegal board (history after) → IsLegal board (history h)
+legal-front may board entries h after (Answered a f x) fits legal =
     legal-before board h (Move.happens fits.0) (subst (λ m. IsLegal board (history m)) fits.1 legal)
-legal-front board entries h after (Delivered a m) fits legal =
+legal-front may board entries h after (Delivered a m) fits legal =
     subst (λ m. IsLegal board (history m)) fits.1 legal
-legal-front board entries h after (Asked k a f) fits legal =
+legal-front may board entries h after (Asked k a f) fits legal =
     subst (λ m. IsLegal board (history m)) fits.1 legal
-legal-front board entries h after (Replied k a f x) fits legal =
+legal-front may board entries h after (Replied k a f x) fits legal =
     subst (λ m. IsLegal board (history m)) fits.0 legal
-legal-front board entries h after (GivenUp k) fits legal =
+legal-front may board entries h after (GivenUp k) fits legal =
     subst (λ m. IsLegal board (history m)) fits legal
 
 -- in a closed set is each legal history behind the entries, if each that ends with the last of them is

@@ -31,7 +31,7 @@ module _ (may : Unseen) (guesses left untried rest : List Guess) (entry : Entry)
               both.0,
             );
       } where
-        by : (board : Board) (entries : List Entry) (h after : List Move) → CanShow board entries h entry after
+        by : (board : Board) (entries : List Entry) (h after : List Move) → CanShow may board entries h entry after
             → IsAmong may board (entry ∷ entries) after left ⊎ IsAmong may board entries h untried
             → IsAmong may board (entry ∷ entries) after (left ++ new ∷ []) ⊎ IsAmong may board entries h rest
         by board entries h after can (inl before) = inl (among-grown may board (entry ∷ entries) after left (new ∷ []) before)
@@ -48,7 +48,7 @@ module _ (may : Unseen) (guesses left untried rest : List Guess) (entry : Entry)
             let so_far = given.real board entries real in
             (so_far.0, (All-pop (IsReal may board entries) untried rest (Some g) are so_far.1).0);
       } where
-        by : (board : Board) (entries : List Entry) (h after : List Move) → CanShow board entries h entry after
+        by : (board : Board) (entries : List Entry) (h after : List Move) → CanShow may board entries h entry after
             → IsAmong may board (entry ∷ entries) after left ⊎ IsAmong may board entries h untried
             → IsAmong may board (entry ∷ entries) after left ⊎ IsAmong may board entries h rest
         by board entries h after can (inl before) = inl before
@@ -67,7 +67,7 @@ module _ (may : Unseen) (guesses left untried rest : List Guess) (entry : Entry)
             let so_far = given.real board entries real in
             (so_far.0, (All-pop (IsReal may board entries) untried rest (Some g) are so_far.1).0);
       } where
-        by : (board : Board) (entries : List Entry) (h after : List Move) → CanShow board entries h entry after
+        by : (board : Board) (entries : List Entry) (h after : List Move) → CanShow may board entries h entry after
             → IsAmong may board (entry ∷ entries) after left ⊎ IsAmong may board entries h untried
             → IsAmong may board (entry ∷ entries) after left ⊎ IsAmong may board entries h rest
         by board entries h after can (inl before) = inl before
@@ -124,10 +124,10 @@ exact-more may board entries entry guesses all left exact expanded closed given 
       real = given.real board entries (expanded.real board entries exact.real);
       all = λ after legal ends. at ends.0 after legal ends.1 ends.2;
     } where
-      at : (k after : List Move) → IsLegal board (history after) → Behind may board entries k → Fits board entries k entry after → IsAmong may board (entry ∷ entries) after left
+      at : (k after : List Move) → IsLegal board (history after) → Behind may board entries k → Fits may board entries k entry after → IsAmong may board (entry ∷ entries) after left
       at k after legal behind fits =
           given.each board entries k after
-          (behind-among may board all closed behind (legal-front board entries k after entry fits legal)
+          (behind-among may board all closed behind (legal-front may board entries k after entry fits legal)
           (λ before fine ends. expanded.kept board entries before (exact.all before fine ends)))
           (record { fits = fits; legal = legal })
 

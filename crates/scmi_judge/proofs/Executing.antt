@@ -16,7 +16,9 @@ use Rattle.scmi_core.specs.Outbox.{is_sent_by}
 use Rattle.scmi_core.specs.Reply.{failed_answer}
 use Rattle.scmi_core.specs.Standing.{MovesOn, Standing, StandsAfter}
 use Rattle.scmi_core.proofs.Laws.{delivered_kept}
-use Rattle.scmi_judge.specs.Behind.{Behind, Fits, IsAnswered, IsUnseen, taken_by}
+use Rattle.scmi_codec.specs.declared.fault.Fault.{Fault}
+use Rattle.scmi_codec.specs.declared.fault.Fault.TheVariants.{HardwareError}
+use Rattle.scmi_judge.specs.Behind.{Behind, FailsPlainly, Fits, IsAnswered, IsUnseen, taken_by}
 use Rattle.scmi_judge.specs.Guess.{CanCome, CannotCome, Gives, GivesNot, GoesOn, IsGuess, command_at, posted_to}
 use Rattle.scmi_judge.specs.Moves.{Move, executed, history, outstanding, outstanding_at}
 use Rattle.scmi_judge.specs.Shown.{message_shown}
@@ -90,7 +92,7 @@ module _ (may : Unseen) (g new : Guess) (k a : ℕ) (f : Frame) (x : Answer) (e 
     (posted : new.posted ≡ g.posted)
     (unsent : (b : ℕ) → is_sent_by b e ≡ false)
     (answered : (h : List Event) → StandsAfter g.platform h
-    → IsAnswered g.platform.board h a f e x) where
+    → IsAnswered g.platform.board h a f e x) (plain : FailsPlainly e) where
   executed-at : (board : Board) (entries : List Entry) (moves : List Move)
       → IsGuess may board g entries moves
       → IsGuess may board new entries (Move.executes k e x ∷ moves)
@@ -105,6 +107,7 @@ module _ (may : Unseen) (g new : Guess) (k a : ℕ) (f : Frame) (x : Answer) (e 
           there,
           subst (λ b. IsAnswered b (history moves) a f e x) guess.of_board
               (answered (history moves) guess.stands),
+          plain,
         );
         stands = goes (history moves) guess.stands;
         channels = channels-kept may g new board entries moves guess posted e unsent;
@@ -152,13 +155,17 @@ module _ (may : Unseen) (g new : Guess) (k a : ℕ) (f : Frame) (x : Answer) (e 
 -- the agent and the frame of a command, done or failed
 abbrev command-agent : ℕ → Event → ℕ
 command-agent d (Command a f) = a
-command-agent d (CommandFailed a f) = a
+command-agent d (CommandFailed a f fault) = a
 command-agent d _ = d
 
 abbrev command-frame : Frame → Event → Frame
 command-frame d (Command a f) = f
-command-frame d (CommandFailed a f) = f
+command-frame d (CommandFailed a f fault) = f
 command-frame d _ = d
+
+abbrev command-fault : Fault → Event → Fault
+command-fault d (CommandFailed a f fault) = fault
+command-fault d _ = d
 
 abbrev is-done : Event → Bool
 is-done (Command a f) = true
@@ -170,14 +177,20 @@ agent-is a b f e is = ap (command-agent a) is
 frame-is : (a b : ℕ) (f e : Frame) → Command a f ≡ Command b e → f ≡ e
 frame-is a b f e is = ap (command-frame f) is
 
-failed-agent-is : (a b : ℕ) (f e : Frame) → CommandFailed a f ≡ CommandFailed b e → a ≡ b
-failed-agent-is a b f e is = ap (command-agent a) is
+failed-agent-is : (a b : ℕ) (f e : Frame) (x y : Fault) → CommandFailed a f x ≡ CommandFailed b e y
+    → a ≡ b
+failed-agent-is a b f e x y is = ap (command-agent a) is
 
-failed-frame-is : (a b : ℕ) (f e : Frame) → CommandFailed a f ≡ CommandFailed b e → f ≡ e
-failed-frame-is a b f e is = ap (command-frame f) is
+failed-frame-is : (a b : ℕ) (f e : Frame) (x y : Fault) → CommandFailed a f x ≡ CommandFailed b e y
+    → f ≡ e
+failed-frame-is a b f e x y is = ap (command-frame f) is
 
-not-failed : (a b : ℕ) (f e : Frame) → Command a f ≡ CommandFailed b e → ⊥
-not-failed a b f e is = absurd (let no : true ≡ false = ap is-done is in cc)
+failed-fault-is : (a b : ℕ) (f e : Frame) (x y : Fault) → CommandFailed a f x ≡ CommandFailed b e y
+    → x ≡ y
+failed-fault-is a b f e x y is = ap (command-fault x) is
+
+not-failed : (a b : ℕ) (f e : Frame) (y : Fault) → Command a f ≡ CommandFailed b e y → ⊥
+not-failed a b f e y is = absurd (let no : true ≡ false = ap is-done is in cc)
 
 -- a command that waits, and a move of a step that executes it
 module _ (may : Unseen) (g : Guess) (k a : ℕ) (f : Frame)
@@ -191,25 +204,29 @@ module _ (may : Unseen) (g : Guess) (k a : ℕ) (f : Frame)
   done-is : (b : ℕ) (e : Frame) (x : Answer)
       → IsUnseen may board entries moves (Move.executes k (Command b e) x)
       → (b ≡ a) × (e ≡ f) × (x ≡ answer_to board a f (history moves))
-  done-is b e x (c, d, there, inl done) =
+  done-is b e x (c, d, there, inl done, plain) =
       let own = waits-for c d there in (
         agent-is b c e d done.0 ∙ sym own.0,
         frame-is b c e d done.0 ∙ sym own.1,
         done.1 ∙ ap (λ n. answer_to board n d (history moves)) (sym own.0)
             ∙ ap (λ m. answer_to board a m (history moves)) (sym own.1),
       )
-  done-is b e x (c, d, there, inr failed) = absurd (not-failed b c e d failed.0)
+  done-is b e x (c, d, there, inr failed, plain) =
+      absurd (not-failed b c e d failed.0 failed.1)
 
   failed-is : (b : ℕ) (e : Frame) (x : Answer)
-      → IsUnseen may board entries moves (Move.executes k (CommandFailed b e) x)
-      → (b ≡ a) × (e ≡ f) × (x ≡ failed_answer f)
-  failed-is b e x (c, d, there, inr failed) =
+      → IsUnseen may board entries moves (Move.executes k (CommandFailed b e HardwareError) x)
+      → (b ≡ a) × (e ≡ f) × (x ≡ failed_answer f HardwareError)
+  failed-is b e x (c, d, there, inr failed, plain) =
       let own = waits-for c d there in (
-        failed-agent-is b c e d failed.0 ∙ sym own.0,
-        failed-frame-is b c e d failed.0 ∙ sym own.1,
-        failed.1 ∙ ap failed_answer (sym own.1),
+        failed-agent-is b c e d HardwareError failed.0 failed.1 ∙ sym own.0,
+        failed-frame-is b c e d HardwareError failed.0 failed.1 ∙ sym own.1,
+        failed.2
+            ∙ ap (failed_answer d) (sym (failed-fault-is b c e d HardwareError failed.0 failed.1))
+            ∙ ap (λ m. failed_answer m HardwareError) (sym own.1),
       )
-  failed-is b e x (c, d, there, inl done) = absurd (not-failed c b d e (sym done.0))
+  failed-is b e x (c, d, there, inl done, plain) =
+      absurd (not-failed c b d e HardwareError (sym done.0))
 
 pub goes-done : (may : Unseen) (g new : Guess) (k a : ℕ) (f : Frame) (x : Answer)
     → command_at g k ≡ Some (outstanding a f None) → k < length g.outstanding
@@ -220,7 +237,7 @@ pub goes-done : (may : Unseen) (g new : Guess) (k a : ℕ) (f : Frame) (x : Answ
     → GoesOn may g (Execute k) new
 goes-done may g new k a f x has within commands goes same posted due =
     goes-executed may g new k a f x (Command a f) has within commands goes same posted (λ b. refl)
-    (λ h stands. inl (refl, due h stands)) (Execute k)
+    (λ h stands. inl (refl, due h stands)) tt (Execute k)
     (λ board entries moves move is guess can.
     let own = subst (CanCome may board entries moves) is.3 can in
     let all = done-is may g k a f has board entries moves guess is.0 is.1 is.2 own.unseen in
@@ -234,18 +251,19 @@ goes-done may g new k a f x has within commands goes same posted due =
 pub goes-failed : (may : Unseen) (g new : Guess) (k a : ℕ) (f : Frame) (x : Answer)
     → command_at g k ≡ Some (outstanding a f None) → k < length g.outstanding
     → new.outstanding ≡ set g.outstanding k (Some (outstanding a f (Some x)))
-    → MovesOn g.platform (CommandFailed a f) new.platform
-    → new.platform.board ≡ g.platform.board → new.posted ≡ g.posted → x ≡ failed_answer f
+    → MovesOn g.platform (CommandFailed a f HardwareError) new.platform
+    → new.platform.board ≡ g.platform.board → new.posted ≡ g.posted
+    → x ≡ failed_answer f HardwareError
     → GoesOn may g (Fail k) new
 goes-failed may g new k a f x has within commands goes same posted due =
-    goes-executed may g new k a f x (CommandFailed a f) has within commands goes same posted
-    (λ b. refl) (λ h stands. inr (refl, due)) (Fail k)
+    goes-executed may g new k a f x (CommandFailed a f HardwareError) has within commands goes same
+    posted (λ b. refl) (λ h stands. inr (HardwareError, refl, due)) refl (Fail k)
     (λ board entries moves move is guess can.
     let own = subst (CanCome may board entries moves) is.3 can in
     let all = failed-is may g k a f has board entries moves guess is.0 is.1 is.2 own.unseen in
-    is.3 ∙ ap (λ n. Move.executes k (CommandFailed n is.1) is.2) all.0
-    ∙ ap (λ m. Move.executes k (CommandFailed a m) is.2) all.1
-    ∙ ap (Move.executes k (CommandFailed a f)) (all.2 ∙ sym due))
+    is.3 ∙ ap (λ n. Move.executes k (CommandFailed n is.1 HardwareError) is.2) all.0
+    ∙ ap (λ m. Move.executes k (CommandFailed a m HardwareError) is.2) all.1
+    ∙ ap (Move.executes k (CommandFailed a f HardwareError)) (all.2 ∙ sym due))
 
 -- nothing is executed at a place at which no command waits
 pub none-executed : (may : Unseen) (g : Guess) (k : ℕ)
@@ -295,7 +313,7 @@ module _ (may : Unseen) (g new : Guess) (entry : Entry) (same : new.platform ≡
     (silent : (a : ℕ) → message_shown a entry ≡ None) where
   still : (board : Board) (entries : List Entry) (moves : List Move) (move : Move)
       → history (move ∷ moves) ≡ history moves → IsGuess may board g entries moves
-      → Fits board entries moves entry (move ∷ moves)
+      → Fits may board entries moves entry (move ∷ moves)
       → ((k : ℕ) → command_at new k ≡ outstanding_at k (move ∷ moves))
       → IsGuess may board new (entry ∷ entries) (move ∷ moves)
   still board entries moves move quiet guess fits commands =

@@ -12,6 +12,7 @@ use Rattle.scmi_codec.specs.declared.frame.Answer.{Answer}
 use Rattle.scmi_core.specs.declared.event.Event.{Event}
 use Rattle.scmi_core.specs.declared.event.Event.TheVariants.{Command, Sent, CommandFailed}
 use Rattle.scmi_core.specs.Effect.{effect_after}
+use Rattle.scmi_codec.specs.declared.fault.Fault.{Fault}
 use Rattle.scmi_core.specs.History.{answer_to, delivered_messages, outbox}
 use Rattle.scmi_core.specs.Legal.{CanFollow, IsLegal}
 use Rattle.scmi_core.specs.Outbox.{is_sent_by}
@@ -19,7 +20,7 @@ use Rattle.scmi_core.specs.Reply.{failed_answer}
 use Rattle.scmi_core.specs.Standing.{MovesOn, Standing, StandsAfter}
 use Rattle.scmi_core.proofs.Laws.{delivered_empty, delivered_kept, delivered_other, delivered_sent}
 use Rattle.scmi_core.proofs.Legal.{IsLegal-last}
-use Rattle.scmi_judge.specs.Behind.{Behind, Fits, IsAnswered, IsUnseenEvent, taken_by}
+use Rattle.scmi_judge.specs.Behind.{Behind, Fits, IsAnswered, MayFail, IsUnseenEvent, taken_by}
 use Rattle.scmi_judge.specs.Guess.{CanCome, CanShow, CannotCome, Gives, GivesNot, GoesOn, IsGuess, posted_to}
 use Rattle.scmi_judge.specs.Moves.{Move, history, outstanding_at}
 use Rattle.scmi_judge.specs.Unseen.{IsOf}
@@ -219,7 +220,7 @@ module _ (may : Unseen) (g new : Guess) (a : ℕ) (m : Message) (agent : IsAgent
       (sym (ap (λ c. taken_by b entries ++ option_to_list (if c then Some m else None)) (ne_eqb b a other) ∙ append-nil (taken_by b entries)))
 
   taken-each : (board : Board) (entries : List Entry) (moves after : List Move)
-      → IsGuess may board g entries moves → CanShow board entries moves (Delivered a m) after
+      → IsGuess may board g entries moves → CanShow may board entries moves (Delivered a m) after
       → IsGuess may board new (Delivered a m ∷ entries) after
   taken-each board entries moves after guess can =
       let nothing : after ≡ moves = can.fits.1 in
@@ -273,7 +274,7 @@ module _ (may : Unseen) (g new : Guess) (a : ℕ) (f : Frame) (x : Answer) (e : 
       → new.outstanding ≡ g.outstanding
       → (board : Board) (entries : List Entry) (moves after : List Move)
       → after ≡ Move.happens e ∷ moves → IsGuess may board g entries moves
-      → Fits board entries moves (Answered a f x) after
+      → Fits may board entries moves (Answered a f x) after
       → IsGuess may board new (Answered a f x ∷ entries) after
   answered-each unsent goes same posted commands board entries moves after are guess fits =
       record {
@@ -299,7 +300,8 @@ module _ (may : Unseen) (g new : Guess) (a : ℕ) (f : Frame) (x : Answer) (e : 
 pub gives-done : (may : Unseen) (g new : Guess) (a : ℕ) (f : Frame) (x : Answer) → MovesOn g.platform (Command a f) new.platform → new.platform.board ≡ g.platform.board → new.posted ≡ g.posted
     → new.outstanding ≡ g.outstanding
     → ((h : List Event) → StandsAfter g.platform h → x ≡ answer_to g.platform.board a f h)
-    → ((h : List Event) → StandsAfter g.platform h → effect_after g.platform.board h (Command a f) ≢ None → x ≢ failed_answer f)
+    → ((h : List Event) → StandsAfter g.platform h → effect_after g.platform.board h (Command a f) ≢ None
+    → (fault : Fault) → MayFail may (CommandFailed a f fault) → x ≢ failed_answer f fault)
     → Gives may g (Answered a f x) new
 gives-done may g new a f x goes same posted commands due only =
     record {
@@ -314,6 +316,7 @@ gives-done may g new a f x goes same posted commands due only =
               subst (λ b. x ≡ answer_to b a f (history moves)) guess.of_board
                   (due (history moves) guess.stands),
             ),
+            tt,
           );
           legal =
               moved-legal board g.platform new.platform (Command a f)
@@ -325,7 +328,7 @@ gives-done may g new a f x goes same posted commands due only =
     } where
       by : (board : Board) (entries : List Entry) (moves after : List Move)
           → IsGuess may board g entries moves → IsLegal board (history after)
-          → (fits : Fits board entries moves (Answered a f x) after)
+          → (fits : Fits may board entries moves (Answered a f x) after)
           → IsAnswered board (history moves) a f fits.0 x
           → IsGuess may board new (Answered a f x ∷ entries) after
       by board entries moves after guess legal fits (inl done) =
@@ -333,24 +336,26 @@ gives-done may g new a f x goes same posted commands due only =
           (λ b. refl) goes same posted commands board entries moves after
           (fits.1 ∙ ap (λ e. Move.happens e ∷ moves) done.0) guess fits
       by board entries moves after guess legal fits (inr failed) =
-          let are = fits.1 ∙ ap (λ e. Move.happens e ∷ moves) failed.0 in
+          let are = fits.1 ∙ ap (λ e. Move.happens e ∷ moves) failed.1 in
           absurd (only (history moves) guess.stands
           (subst (λ b. effect_after b (history moves) (Command a f) ≢ None) (sym guess.of_board)
-          (IsLegal-last board (history moves) (CommandFailed a f)
-          (subst (λ ms. IsLegal board (history ms)) are legal)).1) failed.1)
+          (IsLegal-last board (history moves) (CommandFailed a f failed.0)
+          (subst (λ ms. IsLegal board (history ms)) are legal)).1) failed.0
+          (subst (MayFail may) failed.1 fits.3) failed.2)
 
-pub gives-failed : (may : Unseen) (g new : Guess) (a : ℕ) (f : Frame) (x : Answer) → MovesOn g.platform (CommandFailed a f) new.platform → new.platform.board ≡ g.platform.board → new.posted ≡ g.posted
-    → new.outstanding ≡ g.outstanding
-    → x ≡ failed_answer f → ((h : List Event) → StandsAfter g.platform h → x ≢ answer_to g.platform.board a f h)
+pub gives-failed : (may : Unseen) (g new : Guess) (a : ℕ) (f : Frame) (x : Answer) (fault : Fault) → MovesOn g.platform (CommandFailed a f fault) new.platform → new.platform.board ≡ g.platform.board
+    → new.posted ≡ g.posted → new.outstanding ≡ g.outstanding
+    → MayFail may (CommandFailed a f fault) → x ≡ failed_answer f fault → ((h : List Event) → StandsAfter g.platform h → x ≢ answer_to g.platform.board a f h)
+    → ((h : List Event) → StandsAfter g.platform h → (other : Fault) → x ≡ failed_answer f other → other ≡ fault)
     → Gives may g (Answered a f x) new
-gives-failed may g new a f x goes same posted commands due only =
+gives-failed may g new a f x fault goes same posted commands allowed due only sole =
     record {
       some = λ board entries moves guess. (
-        Move.happens (CommandFailed a f) ∷ moves,
+        Move.happens (CommandFailed a f fault) ∷ moves,
         record {
-          fits = (CommandFailed a f, refl, inr (refl, due));
+          fits = (CommandFailed a f fault, refl, inr (fault, refl, due), allowed);
           legal =
-              moved-legal board g.platform new.platform (CommandFailed a f)
+              moved-legal board g.platform new.platform (CommandFailed a f fault)
               (history moves) guess.of_board same goes guess.stands;
         },
       );
@@ -359,23 +364,26 @@ gives-failed may g new a f x goes same posted commands due only =
     } where
       by : (board : Board) (entries : List Entry) (moves after : List Move)
           → IsGuess may board g entries moves
-          → (fits : Fits board entries moves (Answered a f x) after)
+          → (fits : Fits may board entries moves (Answered a f x) after)
           → IsAnswered board (history moves) a f fits.0 x
           → IsGuess may board new (Answered a f x ∷ entries) after
       by board entries moves after guess fits (inr failed) =
-          answered-each may g new a f x (CommandFailed a f)
+          answered-each may g new a f x (CommandFailed a f fault)
           (λ b. refl) goes same posted commands board entries moves after
-          (fits.1 ∙ ap (λ e. Move.happens e ∷ moves) failed.0) guess fits
+          (fits.1 ∙ ap (λ e. Move.happens e ∷ moves) failed.1
+          ∙ ap (λ y. Move.happens (CommandFailed a f y) ∷ moves)
+          (sole (history moves) guess.stands failed.0 failed.2)) guess fits
       by board entries moves after guess fits (inl done) =
           absurd (only (history moves) guess.stands
           (subst (λ b. x ≡ answer_to b a f (history moves)) (sym guess.of_board) done.1))
 
 pub other-answer : (may : Unseen) (g : Guess) (a : ℕ) (f : Frame) (x : Answer) → ((h : List Event) → StandsAfter g.platform h → x ≢ answer_to g.platform.board a f h)
-    → ((h : List Event) → StandsAfter g.platform h → effect_after g.platform.board h (Command a f) ≢ None → x ≢ failed_answer f)
+    → ((h : List Event) → StandsAfter g.platform h → effect_after g.platform.board h (Command a f) ≢ None
+    → (fault : Fault) → MayFail may (CommandFailed a f fault) → x ≢ failed_answer f fault)
     → GivesNot may g (Answered a f x)
 other-answer may g a f x undone unfailed board entries moves after guess can =
     by can.fits can.fits.2 where
-      by : (fits : Fits board entries moves (Answered a f x) after)
+      by : (fits : Fits may board entries moves (Answered a f x) after)
           → IsAnswered board (history moves) a f fits.0 x → ⊥
       by fits (inl done) =
           undone (history moves) guess.stands
@@ -383,25 +391,26 @@ other-answer may g a f x undone unfailed board entries moves after guess can =
       by fits (inr failed) =
           unfailed (history moves) guess.stands
           (subst (λ b. effect_after b (history moves) (Command a f) ≢ None) (sym guess.of_board)
-          (IsLegal-last board (history moves) (CommandFailed a f)
+          (IsLegal-last board (history moves) (CommandFailed a f failed.0)
           (subst (λ ms. IsLegal board (history ms))
-          (fits.1 ∙ ap (λ e. Move.happens e ∷ moves) failed.0) can.legal)).1) failed.1
+          (fits.1 ∙ ap (λ e. Move.happens e ∷ moves) failed.1) can.legal)).1) failed.0
+          (subst (MayFail may) failed.1 fits.3) failed.2
 
 pub stranger-answer : (may : Unseen) (g : Guess) (a : ℕ) (f : Frame) (x : Answer) → ¬ (IsAgent (length g.platform.board.agents) a) → GivesNot may g (Answered a f x)
 stranger-answer may g a f x away board entries moves after guess can = by can.fits can.fits.2 where
   here : IsAgent (length board.agents) a → ⊥
   here is = away (subst (λ b. IsAgent (length b.agents) a) (sym guess.of_board) is)
 
-  by : (fits : Fits board entries moves (Answered a f x) after)
+  by : (fits : Fits may board entries moves (Answered a f x) after)
       → IsAnswered board (history moves) a f fits.0 x → ⊥
   by fits (inl done) =
       here (IsLegal-last board (history moves) (Command a f)
       (subst (λ ms. IsLegal board (history ms))
       (fits.1 ∙ ap (λ e. Move.happens e ∷ moves) done.0) can.legal))
   by fits (inr failed) =
-      here (IsLegal-last board (history moves) (CommandFailed a f)
+      here (IsLegal-last board (history moves) (CommandFailed a f failed.0)
       (subst (λ ms. IsLegal board (history ms))
-      (fits.1 ∙ ap (λ e. Move.happens e ∷ moves) failed.0) can.legal)).0
+      (fits.1 ∙ ap (λ e. Move.happens e ∷ moves) failed.1) can.legal)).0
 
 -- at the start nothing was posted, and no command is outstanding
 eight_none : (X : Type 0) → List (Option X)

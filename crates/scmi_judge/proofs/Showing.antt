@@ -10,7 +10,7 @@ use Rattle.scmi_codec.specs.declared.message.Message.{Message}
 use Rattle.scmi_codec.specs.declared.frame.Frame.{Frame}
 use Rattle.scmi_codec.specs.declared.frame.Answer.{Answer}
 use Rattle.scmi_core.specs.declared.event.Event.{Event}
-use Rattle.scmi_core.specs.declared.event.Event.TheVariants.{Command, Advance, Sent, CommandFailed, AdvanceFailed, Restarted}
+use Rattle.scmi_core.specs.declared.event.Event.TheVariants.{Command, Advance, Sent, CommandFailed, AdvanceFailed, Restarted, Reported}
 use Rattle.scmi_core.specs.Agents.{answer_for, answers_to, frame_from, frames_of}
 use Rattle.scmi_core.specs.History.{delivered_messages, outbox}
 use Rattle.scmi_core.specs.Legal.{IsLegal}
@@ -37,11 +37,12 @@ shown-more shows entry entries = ap (filter_map shows) (reverse-append (entry �
 quiet : (may : Unseen) (board : Board) (entries : List Entry) (h : List Event) (e : Event)
     → IsUnseenEvent may board entries h e → IsQuiet e
 quiet may board entries h Advance is = advance
-quiet may board entries h AdvanceFailed is = advance_failed
+quiet may board entries h (AdvanceFailed fault) is = advance_failed fault
 quiet may board entries h (Sent a) is = sent_to a
 quiet may board entries h (Command a f) is = absurd is
-quiet may board entries h (CommandFailed a f) is = absurd is
+quiet may board entries h (CommandFailed a f fault) is = absurd is
 quiet may board entries h (Restarted a) is = restarted a
+quiet may board entries h (Reported effect) is = absurd is
 
 frames-more : (a : ℕ) (h : List Event) (e : Event) → frames_of a (h ++ e ∷ []) ≡ frames_of a h ++ cons_option (frame_from a e) []
 unfolding frames_of
@@ -120,7 +121,7 @@ module _ (may : Unseen) (board : Board) where
 
   -- an answered command, done or failed, adds its frame and its answer
   frames-answered : (entries : List Entry) (h after : List Move) (b : ℕ) (f : Frame) (x : Answer)
-      → Fits board entries h (Answered b f x) after → (a : ℕ)
+      → Fits may board entries h (Answered b f x) after → (a : ℕ)
       → frames_of a (history h) ≡ filter_map (frame_shown a) (reverse entries)
       → frames_of a (history after)
       ≡ filter_map (frame_shown a) (reverse (Answered b f x ∷ entries))
@@ -137,10 +138,10 @@ module _ (may : Unseen) (board : Board) where
         → frames_of a (history after)
         ≡ filter_map (frame_shown a) (reverse (Answered b f x ∷ entries))
     by (inl done) = more (Command b f) refl done.0
-    by (inr failed) = more (CommandFailed b f) refl failed.0
+    by (inr failed) = more (CommandFailed b f failed.0) refl failed.1
 
   answers-answered : (entries : List Entry) (h after : List Move) (b : ℕ) (f : Frame) (x : Answer)
-      → Fits board entries h (Answered b f x) after → (a : ℕ)
+      → Fits may board entries h (Answered b f x) after → (a : ℕ)
       → answers_to board a (history h) ≡ filter_map (answer_shown a) (reverse entries)
       → answers_to board a (history after)
       ≡ filter_map (answer_shown a) (reverse (Answered b f x ∷ entries))
@@ -158,7 +159,7 @@ module _ (may : Unseen) (board : Board) where
         → answers_to board a (history after)
         ≡ filter_map (answer_shown a) (reverse (Answered b f x ∷ entries))
     by (inl done) = more (Command b f) (ap (λ y. if a == b then y ∷ [] else []) (sym done.1) ∙ one-if (a == b) x) done.0
-    by (inr failed) = more (CommandFailed b f) (ap (λ y. if a == b then y ∷ [] else []) (sym failed.1) ∙ one-if (a == b) x) failed.0
+    by (inr failed) = more (CommandFailed b f failed.0) (ap (λ y. if a == b then y ∷ [] else []) (sym failed.2) ∙ one-if (a == b) x) failed.1
 
   -- a message that was taken adds none
   nothing-shown : {X : Type 0} (shows : Entry → Option X) (entry : Entry) (entries : List Entry) → shows entry ≡ None → filter_map shows (reverse entries) ≡ filter_map shows (reverse (entry ∷ entries))
@@ -228,7 +229,7 @@ module _ (may : Unseen) (board : Board) where
       → IsUnseenEvent may board entries h e → (a : ℕ) → HasAtMostOne board entries h a
       → HasAtMostOne board entries (h ++ e ∷ []) a
   posted-more entries h Advance legal is a one = (one.0, delivered_kept board a h Advance (IsLegal-front board h Advance legal) refl ∙ one.1)
-  posted-more entries h AdvanceFailed legal is a one = (one.0, delivered_kept board a h AdvanceFailed (IsLegal-front board h AdvanceFailed legal) refl ∙ one.1)
+  posted-more entries h (AdvanceFailed fault) legal is a one = (one.0, delivered_kept board a h (AdvanceFailed fault) (IsLegal-front board h (AdvanceFailed fault) legal) refl ∙ one.1)
   posted-more entries h (Sent b) legal empty a one = by (decide a b) where
     first : (m : Message) × (slice_get (outbox board b h) 0 ≡ Some m)
     first = first-of (outbox board b h) (IsLegal-last board h (Sent b) legal).2
@@ -239,11 +240,12 @@ module _ (may : Unseen) (board : Board) where
         (Some first.0, delivered_sent board b h first.0 first.1 ∙ ap (λ ms. ms ++ first.0 ∷ []) empty)
     by (inr other) = (one.0, delivered_other board a b h (IsLegal-front board h (Sent b) legal) other ∙ one.1)
   posted-more entries h (Command b f) legal is a one = absurd is
-  posted-more entries h (CommandFailed b f) legal is a one = absurd is
+  posted-more entries h (CommandFailed b f fault) legal is a one = absurd is
   posted-more entries h (Restarted b) legal is a one = (
     one.0,
     delivered_kept board a h (Restarted b) (IsLegal-front board h (Restarted b) legal) refl ∙ one.1,
   )
+  posted-more entries h (Reported effect) legal is a one = absurd is
 
   -- a command that is executed posts nothing
   delivered-answered : (h : List Event) (b : ℕ) (f : Frame) (e : Event) (x : Answer)
@@ -253,11 +255,11 @@ module _ (may : Unseen) (board : Board) where
       ap (λ y. delivered_messages board a (h ++ y ∷ [])) done.0
       ∙ delivered_kept board a h (Command b f) legal refl
   delivered-answered h b f e x legal (inr failed) a =
-      ap (λ y. delivered_messages board a (h ++ y ∷ [])) failed.0
-      ∙ delivered_kept board a h (CommandFailed b f) legal refl
+      ap (λ y. delivered_messages board a (h ++ y ∷ [])) failed.1
+      ∙ delivered_kept board a h (CommandFailed b f failed.0) legal refl
 
   posted-answered : (entries : List Entry) (h after : List Move) (b : ℕ) (f : Frame) (x : Answer)
-      → Fits board entries h (Answered b f x) after → IsLegal board (history h) → (a : ℕ)
+      → Fits may board entries h (Answered b f x) after → IsLegal board (history h) → (a : ℕ)
       → HasAtMostOne board entries (history h) a
       → HasAtMostOne board (Answered b f x ∷ entries) (history after) a
   posted-answered entries h after b f x fits legal a one =
@@ -266,7 +268,7 @@ module _ (may : Unseen) (board : Board) where
       ∙ delivered-answered (history h) b f fits.0 x legal fits.2 a) refl one
 
   posted-taken : (entries : List Entry) (h after : List Move) (b : ℕ) (m : Message)
-      → Fits board entries h (Delivered b m) after → (a : ℕ)
+      → Fits may board entries h (Delivered b m) after → (a : ℕ)
       → HasAtMostOne board entries (history h) a
       → HasAtMostOne board (Delivered b m ∷ entries) (history after) a
   posted-taken entries h after b m fits a one = by (decide a b) where
@@ -299,39 +301,40 @@ module _ (may : Unseen) (board : Board) where
       absurd is
   messages-shown (Behind.unseen {entries} {moves = h} behind (Move.frees k) is) legal a = absurd is
   messages-shown (Behind.shown {entries} {moves = h} behind (Answered b f x) after fits) legal a =
-      let before = legal-front board entries h after (Answered b f x) fits legal in
+      let before = legal-front may board entries h after (Answered b f x) fits legal in
       posted-answered entries h after b f x fits before a (messages-shown behind before a)
   messages-shown (Behind.shown {entries} {moves = h} behind (Delivered b m) after fits) legal a =
       posted-taken entries h after b m fits a
-      (messages-shown behind (legal-front board entries h after (Delivered b m) fits legal) a)
+      (messages-shown behind (legal-front may board entries h after (Delivered b m) fits legal) a)
   messages-shown (Behind.shown {entries} {moves = h} behind (Asked k b f) after fits) legal a =
       same-posted entries h after (Asked k b f) a
       (ap (λ ms. delivered_messages board a (history ms)) fits.1) refl
-      (messages-shown behind (legal-front board entries h after (Asked k b f) fits legal) a)
+      (messages-shown behind (legal-front may board entries h after (Asked k b f) fits legal) a)
   messages-shown (Behind.shown {entries} {moves = h} behind (Replied k b f x) after fits) legal a =
       same-posted entries h after (Replied k b f x) a
       (ap (λ ms. delivered_messages board a (history ms)) fits.0) refl
-      (messages-shown behind (legal-front board entries h after (Replied k b f x) fits legal) a)
+      (messages-shown behind (legal-front may board entries h after (Replied k b f x) fits legal) a)
   messages-shown (Behind.shown {entries} {moves = h} behind (GivenUp k) after fits) legal a =
       same-posted entries h after (GivenUp k) a
       (ap (λ ms. delivered_messages board a (history ms)) fits) refl
-      (messages-shown behind (legal-front board entries h after (GivenUp k) fits legal) a)
+      (messages-shown behind (legal-front may board entries h after (GivenUp k) fits legal) a)
 
 -- no agent restarts in it if none may
 no-restart : (may : Unseen) (board : Board) (entries : List Entry) (h : List Event) (e : Event)
     → may.restarts ≡ false → IsUnseenEvent may board entries h e → IsNoRestart e
 no-restart may board entries h Advance never is = tt
-no-restart may board entries h AdvanceFailed never is = tt
+no-restart may board entries h (AdvanceFailed fault) never is = tt
 no-restart may board entries h (Sent a) never is = tt
 no-restart may board entries h (Command a f) never is = absurd is
-no-restart may board entries h (CommandFailed a f) never is = absurd is
+no-restart may board entries h (CommandFailed a f fault) never is = absurd is
 no-restart may board entries h (Restarted a) never is =
     absurd (let same : false ≡ true = sym never ∙ is in cc)
+no-restart may board entries h (Reported effect) never is = absurd is
 
 no-restart-answered : (board : Board) (h : List Event) (b : ℕ) (f : Frame) (e : Event) (x : Answer)
     → IsAnswered board h b f e x → IsNoRestart e
 no-restart-answered board h b f e x (inl done) = subst IsNoRestart (sym done.0) tt
-no-restart-answered board h b f e x (inr failed) = subst IsNoRestart (sym failed.0) tt
+no-restart-answered board h b f e x (inr failed) = subst IsNoRestart (sym failed.1) tt
 
 pub no-restarts : (may : Unseen) (board : Board) → may.restarts ≡ false
     → {entries : List Entry} {h : List Move} → Behind may board entries h

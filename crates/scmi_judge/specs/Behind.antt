@@ -1,6 +1,6 @@
 -- The histories that may be behind a record. The entries of a record, and the moves behind them,
 -- stand newest first here.
-use Rattle.std.specs.Prelude.{◌≡◌, ◌⊎◌, ⊤, ℕ, ◌<◌, Bool, true, false, List, [], ◌∷◌, ◌++◌, length, reverse, slice_get, Option, Some, None as Nothing}
+use Rattle.std.specs.Prelude.{◌≡◌, ◌≢◌, ◌⊎◌, ⊤, ℕ, ◌<◌, Bool, true, false, List, [], ◌∷◌, ◌++◌, length, reverse, slice_get, Option, Some, None as Nothing}
 use Rattle.std.specs.Option.{option_map_or, option_to_list}
 use Rattle.scmi_plan.specs.Agent.{IsAgent}
 use Rattle.scmi_plan.specs.Board.{Board}
@@ -8,7 +8,9 @@ use Rattle.scmi_codec.specs.declared.frame.Frame.{Frame}
 use Rattle.scmi_codec.specs.declared.frame.Answer.{Answer}
 use Rattle.scmi_codec.specs.declared.message.Message.{Message}
 use Rattle.scmi_core.specs.declared.event.Event.{Event}
-use Rattle.scmi_core.specs.declared.event.Event.TheVariants.{Command, Advance, Sent, CommandFailed, AdvanceFailed, Restarted}
+use Rattle.scmi_core.specs.declared.event.Event.TheVariants.{Command, Advance, Sent, CommandFailed, AdvanceFailed, Restarted, Reported}
+use Rattle.scmi_codec.specs.declared.fault.Fault.{Fault}
+use Rattle.scmi_codec.specs.declared.fault.Fault.TheVariants.{HardwareError}
 use Rattle.scmi_core.specs.declared.pending_set.PendingSet.{PendingSet}
 use Rattle.scmi_core.specs.History.{answer_to, deeds, delivered_messages}
 use Rattle.scmi_core.specs.Legal.{IsLegal}
@@ -49,55 +51,71 @@ may_refuse Any board h = true
 
 -- after a history that is behind these entries an event may come that no entry shows by itself: a
 -- pending set completes;
--- or the hardware refuses its change, if it may; or a message is posted into its agent's channel,
--- if that is empty, so that at most one is posted and not yet seen;
+-- or the hardware refuses its change with HARDWARE_ERROR, if it may; or a message is posted into
+-- its agent's channel, if that is empty, so that at most one is posted and not yet seen;
 -- or an agent restarts, if agents may
 abbrev pub IsUnseenEvent : Unseen → Board → List Entry → List Event → Event → Type 0
 IsUnseenEvent may board entries h Advance = Unit {0}
-IsUnseenEvent may board entries h AdvanceFailed = may_refuse may.refusals board h ≡ true
+IsUnseenEvent may board entries h (AdvanceFailed fault) =
+    (fault ≡ HardwareError) × (may_refuse may.refusals board h ≡ true)
 IsUnseenEvent may board entries h (Sent a) = HasEmptyChannel board entries h a
 IsUnseenEvent may board entries h (Command a frame) = ⊥
-IsUnseenEvent may board entries h (CommandFailed a frame) = ⊥
+IsUnseenEvent may board entries h (CommandFailed a frame fault) = ⊥
 IsUnseenEvent may board entries h (Restarted a) = may.restarts ≡ true
+IsUnseenEvent may board entries h (Reported effect) = ⊥
 
 -- after a history this event is a command of agent a with the answer that it gets there, or one
--- whose change the hardware refused, with the answer to that
+-- whose change the hardware refused with some fault, with the answer to that
 abbrev pub IsAnswered : Board → List Event → ℕ → Frame → Event → Answer → Type 0
 IsAnswered board h a frame event answer =
     ((event ≡ Command a frame) × (answer ≡ answer_to board a frame h))
-    ⊎ ((event ≡ CommandFailed a frame) × (answer ≡ failed_answer frame))
+    ⊎ ((fault : Fault) × (event ≡ CommandFailed a frame fault)
+    × (answer ≡ failed_answer frame fault))
+
+-- an event is no refusal of the hardware with another fault than HARDWARE_ERROR
+abbrev pub FailsPlainly : Event → Type 0
+FailsPlainly (CommandFailed a frame fault) = fault ≡ HardwareError
+FailsPlainly (AdvanceFailed fault) = fault ≡ HardwareError
+FailsPlainly _ = ⊤
 
 -- after moves that are behind these entries this one may come that no entry shows by itself: an
--- unseen event, or a command is executed that is outstanding and was not executed yet
+-- unseen event, or a command is executed that is outstanding and was not executed yet, or the
+-- hardware refuses its change with HARDWARE_ERROR
 abbrev pub IsUnseen : Unseen → Board → List Entry → List Move → Move → Type 0
 IsUnseen may board entries moves (Move.happens event) =
     IsUnseenEvent may board entries (history moves) event
 IsUnseen may board entries moves (Move.executes k event answer) =
     (a : ℕ) × (frame : Frame) × (outstanding_at k moves ≡ Some (outstanding a frame Nothing))
-    × IsAnswered board (history moves) a frame event answer
+    × IsAnswered board (history moves) a frame event answer × FailsPlainly event
 IsUnseen may board entries moves (Move.asks k a frame) = ⊥
 IsUnseen may board entries moves (Move.frees k) = ⊥
 
+-- the hardware may refuse a command's change with the fault of this event: with HARDWARE_ERROR, and
+-- with any other if it may refuse the changes of pending sets too
+abbrev pub MayFail : Unseen → Event → Type 0
+MayFail may (CommandFailed a frame fault) = (fault ≡ HardwareError) ⊎ (may.refusals ≢ None)
+MayFail may _ = ⊤
+
 -- after moves that are behind these entries, these are behind one more. A command with its answer
--- is executed here. A message that an agent takes is the one that was posted to it and not yet
--- seen.
+-- is executed here, or the hardware refuses its change with a fault that it may have. A message
+-- that an agent takes is the one that was posted to it and not yet seen.
 -- A command that is answered later is outstanding from here on, at a place that was free; its
 -- answer is the one that it got when it was executed, and the place is free again; and if no answer
 -- of it comes, the place is free at some time
-abbrev pub Fits : Board → List Entry → List Move → Entry → List Move → Type 0
-Fits board entries moves (entry.Answered a frame answer) after =
+abbrev pub Fits : Unseen → Board → List Entry → List Move → Entry → List Move → Type 0
+Fits may board entries moves (entry.Answered a frame answer) after =
     (event : Event) × (after ≡ Move.happens event ∷ moves)
-    × IsAnswered board (history moves) a frame event answer
-Fits board entries moves (entry.Delivered a message) after =
+    × IsAnswered board (history moves) a frame event answer × MayFail may event
+Fits may board entries moves (entry.Delivered a message) after =
     IsAgent (length board.agents) a × (after ≡ moves)
     × (delivered_messages board a (history moves) ≡ taken_by a entries ++ message ∷ [])
-Fits board entries moves (entry.Asked k a frame) after =
+Fits may board entries moves (entry.Asked k a frame) after =
     IsAgent (length board.agents) a × (after ≡ Move.asks k a frame ∷ moves) × (k < OUTSTANDING)
     × (outstanding_at k moves ≡ Nothing)
-Fits board entries moves (entry.Replied k a frame answer) after =
+Fits may board entries moves (entry.Replied k a frame answer) after =
     (after ≡ Move.frees k ∷ moves)
     × (outstanding_at k moves ≡ Some (outstanding a frame (Some answer)))
-Fits board entries moves (entry.GivenUp k) after = after ≡ Move.frees k ∷ moves
+Fits may board entries moves (entry.GivenUp k) after = after ≡ Move.frees k ∷ moves
 
 -- moves are behind these entries, newest first: they show what they show of them, and unseen moves
 -- stand anywhere
@@ -107,7 +125,7 @@ pub data Behind (may : Unseen) (board : Board) : List Entry → List Move → Ty
       → (move : Move) → IsUnseen may board entries moves move
       → Behind may board entries (move ∷ moves)
   shown : {entries : List Entry} {moves : List Move} → Behind may board entries moves
-      → (entry : Entry) (after : List Move) → Fits board entries moves entry after
+      → (entry : Entry) (after : List Move) → Fits may board entries moves entry after
       → Behind may board (entry ∷ entries) after
 
 -- a legal history of a board is behind these entries, newest first

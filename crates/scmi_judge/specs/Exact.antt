@@ -60,7 +60,7 @@ AreClosed may guesses =
 abbrev pub EndsShown : Unseen → Board → List Entry → List Move → Type 0
 EndsShown may board [] moves = moves ≡ []
 EndsShown may board (entry ∷ entries) after =
-    (moves : List Move) × Behind may board entries moves × Fits board entries moves entry after
+    (moves : List Move) × Behind may board entries moves × Fits may board entries moves entry after
 
 -- these guesses are all the platforms that may be behind these entries, at the last of them
 pub record AreExact (may : Unseen) (board : Board) (entries : List Entry) (guesses : List Guess) : Type 0 where
@@ -88,13 +88,13 @@ IsKept may guesses all others =
 -- these guesses are the others after an entry: all those that give it
 pub record HaveGiven (may : Unseen) (guesses : List Guess) (entry : Entry) (left : List Guess) : Type 0 where
   pub each : (board : Board) (entries : List Entry) (moves after : List Move)
-      → IsAmong may board entries moves guesses → CanShow board entries moves entry after
+      → IsAmong may board entries moves guesses → CanShow may board entries moves entry after
       → IsAmong may board (entry ∷ entries) after left
   pub real : (board : Board) (entries : List Entry) → All (IsReal may board entries) guesses → All (IsReal may board (entry ∷ entries)) left
 
 -- the same, of those that have been tried
 pub record AreGiven (may : Unseen) (guesses : List Guess) (entry : Entry) (left untried : List Guess) : Type 0 where
   pub each : (board : Board) (entries : List Entry) (moves after : List Move)
-      → IsAmong may board entries moves guesses → CanShow board entries moves entry after
+      → IsAmong may board entries moves guesses → CanShow may board entries moves entry after
       → IsAmong may board (entry ∷ entries) after left ⊎ IsAmong may board entries moves untried
   pub real : (board : Board) (entries : List Entry) → All (IsReal may board entries) guesses → All (IsReal may board (entry ∷ entries)) left × All (IsReal may board entries) untried

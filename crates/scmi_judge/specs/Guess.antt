@@ -66,25 +66,25 @@ CannotCome may g step =
     → IsGuess may board g entries moves → ¬ (CanCome may board entries moves move)
 
 -- these moves may be behind an entry after those that are behind the entries before it
-pub record CanShow (board : Board) (entries : List Entry) (moves : List Move) (entry : Entry)
-    (after : List Move) : Type 0 where
-  pub fits : Fits board entries moves entry after
+pub record CanShow (may : Unseen) (board : Board) (entries : List Entry) (moves : List Move)
+    (entry : Entry) (after : List Move) : Type 0 where
+  pub fits : Fits may board entries moves entry after
   pub legal : IsLegal board (history after)
 
 -- a guess gives an entry, whatever it is behind, and then it is the new one
 pub record Gives (may : Unseen) (g : Guess) (entry : Entry) (new : Guess) : Type 0 where
   pub some : (board : Board) (entries : List Entry) (moves : List Move)
       → IsGuess may board g entries moves
-      → (after : List Move) × CanShow board entries moves entry after
+      → (after : List Move) × CanShow may board entries moves entry after
   pub each : (board : Board) (entries : List Entry) (moves after : List Move)
-      → IsGuess may board g entries moves → CanShow board entries moves entry after
+      → IsGuess may board g entries moves → CanShow may board entries moves entry after
       → IsGuess may board new (entry ∷ entries) after
 
 -- a guess does not give an entry, whatever it is behind
 abbrev pub GivesNot : Unseen → Guess → Entry → Type 0
 GivesNot may g entry =
     (board : Board) (entries : List Entry) (moves after : List Move)
-    → IsGuess may board g entries moves → ¬ (CanShow board entries moves entry after)
+    → IsGuess may board g entries moves → ¬ (CanShow may board entries moves entry after)
 
 -- whatever one guess is, the other is as well
 abbrev pub IsSameGuess : Unseen → Guess → Guess → Type 0

@@ -1,9 +1,10 @@
 -- What an entry of a record shows.
 use Rattle.std.specs.Prelude.{ℕ, ◌==◌, Bool, true, false, if◌then◌else◌, List, [], ◌∷◌, Option, Some, None, Result, Ok}
-use Rattle.std.specs.Option.{option_map}
+use Rattle.std.specs.Option.{option_and_then, option_map}
 use Rattle.scmi_codec.specs.Command.{command_header, command_of, command_words}
 use Rattle.scmi_codec.specs.Payload.{begins_with_success}
 use Rattle.scmi_codec.specs.Rate.{rate_of}
+use Rattle.scmi_codec.specs.Status.{status_of}
 use Rattle.scmi_codec.specs.declared.clock_command.ClockCommand.TheVariants as clock
 use Rattle.scmi_codec.specs.declared.command.Command as codec
 use Rattle.scmi_codec.specs.declared.command.Command.TheVariants.{Power, Clock}
@@ -13,6 +14,8 @@ use Rattle.scmi_codec.specs.declared.frame.Answer.{Answer}
 use Rattle.scmi_codec.specs.declared.frame.Answer.TheVariants.{Reply, Released, ChannelError}
 use Rattle.scmi_codec.specs.declared.power_command.PowerCommand.TheVariants as power
 use Rattle.scmi_codec.specs.declared.status.Status.{Status}
+use Rattle.scmi_codec.specs.Fault.{fault_of}
+use Rattle.scmi_codec.specs.declared.fault.Fault.{Fault}
 use Rattle.scmi_judge.specs.declared.entry.Entry.{Entry}
 use Rattle.scmi_judge.specs.declared.entry.Entry.TheVariants.{Answered, Asked, Delivered, GivenUp, Replied}
 
@@ -44,6 +47,17 @@ abbrev pub has_succeeded : Answer → Bool
 has_succeeded (Reply m) = begins_with_success m.payload.items
 has_succeeded Released = false
 has_succeeded ChannelError = false
+
+-- the fault that the payload of a reply shows, if it is the status of one alone
+abbrev pub fault_in_words : List ℕ → Option Fault
+fault_in_words (word ∷ []) = option_and_then fault_of (status_of word)
+fault_in_words _ = None
+
+-- the fault that an answer shows, if it is a reply with the status of one alone
+abbrev pub fault_shown : Answer → Option Fault
+fault_shown (Reply m) = fault_in_words m.payload.items
+fault_shown Released = None
+fault_shown ChannelError = None
 
 -- a command sets the state of a domain, or the rate or the configuration of a clock
 abbrev pub sets_value : Result codec.Command Status → Bool

@@ -3,6 +3,7 @@ use Rattle.std.specs.Prelude.{◌≡◌, ℕ, ◌-◌}
 use Rattle.scmi_codec.specs.declared.frame.Frame.{Frame}
 use Rattle.scmi_codec.specs.declared.frame.Answer.{Answer}
 use Rattle.scmi_core.specs.declared.event.Event.TheVariants.{Command, CommandFailed, Advance, AdvanceFailed, Restarted, Sent}
+use Rattle.scmi_codec.specs.declared.fault.Fault.TheVariants.{HardwareError}
 use Rattle.scmi_judge.specs.Moves.{Move}
 use Rattle.scmi_judge.specs.declared.outstanding.TheConstants.{OUTSTANDING}
 use Rattle.scmi_judge.specs.declared.unseen.Act.{Act}
@@ -13,11 +14,13 @@ use Rattle.scmi_judge.specs.declared.unseen.Step.TheVariants.{Complete, Execute,
 -- a move is one of a step
 abbrev pub IsOf : Step → Move → Type 0
 IsOf Complete move = move ≡ Move.happens Advance
-IsOf Refuse move = move ≡ Move.happens AdvanceFailed
+IsOf Refuse move = move ≡ Move.happens (AdvanceFailed HardwareError)
 IsOf (Post a) move = move ≡ Move.happens (Sent a)
 IsOf (Restart a) move = move ≡ Move.happens (Restarted a)
 IsOf (Execute k) move = (a : ℕ) × (frame : Frame) × (answer : Answer) × (move ≡ Move.executes k (Command a frame) answer)
-IsOf (Fail k) move = (a : ℕ) × (frame : Frame) × (answer : Answer) × (move ≡ Move.executes k (CommandFailed a frame) answer)
+IsOf (Fail k) move =
+    (a : ℕ) × (frame : Frame) × (answer : Answer)
+    × (move ≡ Move.executes k (CommandFailed a frame HardwareError) answer)
 
 -- the step of what may happen to each agent, or to the command at each place; places are counted
 -- from 1 here

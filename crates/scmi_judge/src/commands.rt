@@ -11,7 +11,7 @@ ghost use Rattle.scmi_judge.specs.declared.unseen.Unseen.{Unseen as Hidden};
 use crate::guess::Guess;
 use crate::outstanding::{OUTSTANDING, Outstanding};
 use crate::same::{is_same_answer, is_same_frame};
-use scmi_codec::{Answer, Frame, Message};
+use scmi_codec::{Answer, Fault, Frame, Message};
 
 impl Guess {
     /// The command at a place, if one is outstanding there.
@@ -86,9 +86,12 @@ impl Guess {
             return false;
         };
         let mut failed = Message::default();
-        let Ok(()) = self
-            .platform
-            .command_failed(command.agent, &command.frame, &mut failed)
+        let Ok(()) = self.platform.command_failed(
+            command.agent,
+            &command.frame,
+            Fault::HardwareError,
+            &mut failed,
+        )
         else {
             return false;
         };

@@ -30,13 +30,14 @@ impl Guesses {
         ensures others { self.new.others ≡ self.old.others }
         ensures places { all_places self.new ≡ all_places self.old }
     {
+        let unseen = self.unseen;
         let mut place = self.others.len();
         'others: while place > 0 {
             place -= 1;
             self.made.copy_from(&self.others[place]);
             if let Some(due) = self.made.due(entry) {
                 self.made.copy_from(&self.others[place]);
-                if self.made.show(&in_place(entry, &due)) {
+                if self.made.show(&in_place(entry, &due), unseen) {
                     return due;
                 }
             }

@@ -7,19 +7,20 @@ ghost use Rattle.scmi_core.specs.Reply.{failed_answer};
 ghost use Rattle.scmi_core.specs.History.{answer_to};
 ghost use Rattle.scmi_core.specs.Standing.{MovesOn, StandsAfter};
 ghost use Rattle.scmi_core.specs.declared.event.Event.{Event};
-ghost use Rattle.scmi_judge.specs.Behind.{may_refuse};
+ghost use Rattle.scmi_codec.specs.declared.fault.Fault.{Fault as Faults};
+ghost use Rattle.scmi_judge.specs.Behind.{MayFail, may_refuse};
 ghost use Rattle.scmi_judge.specs.Guess.{CannotCome, Gives, GivesNot, GoesOn, IsGuess, posted_to};
 ghost use Rattle.scmi_judge.specs.declared.entry.Entry.TheVariants as entry;
 ghost use Rattle.scmi_judge.specs.declared.unseen.Step.TheVariants as steps;
 ghost use Rattle.scmi_judge.specs.declared.unseen.Unseen.{Unseen as Hidden};
-ghost use Rattle.scmi_core.specs.declared.event.Event.TheVariants.{Command};
+ghost use Rattle.scmi_core.specs.declared.event.Event.TheVariants.{Command, CommandFailed};
 
 use crate::entry::Entry;
 use crate::outstanding::{OUTSTANDING, Outstanding};
 use crate::same::{are_same_commands, is_same_answer, is_same_message};
-use crate::shown::has_succeeded;
+use crate::shown::fault_shown;
 use crate::unseen::{Refusals, Step, Unseen};
-use scmi_codec::{Answer, Frame, Message};
+use scmi_codec::{Answer, Fault, Frame, Message};
 use scmi_core::{Answered, Platform};
 use scmi_plan::{AGENTS, Plan};
 
@@ -144,7 +145,7 @@ impl Guess {
         if !self.can_refuse(unseen) {
             return false;
         }
-        self.platform.advance_failed()
+        self.platform.advance_failed(Fault::HardwareError)
     }
 
     /// Posts the first message for an agent into its channel; `false` if it can't be posted.
@@ -185,10 +186,9 @@ impl Guess {
 
     /// What the platform is after an entry; `false` if it does not give the entry, and then it may
     /// be any of this board.
-    pub fn show(&mut self, entry: &Entry) -> bool
-        ensures gives { result ≡ true → (may : Hidden)
-            → Gives may self.old entry.now self.new }
-        ensures not { result ≡ false → (may : Hidden) → GivesNot may self.old entry.now }
+    pub fn show(&mut self, entry: &Entry, unseen: Unseen) -> bool
+        ensures gives { result ≡ true → Gives unseen self.old entry.now self.new }
+        ensures not { result ≡ false → GivesNot unseen self.old entry.now }
         ensures board { self.new.platform.board ≡ self.old.platform.board }
     {
         match entry {
@@ -196,7 +196,7 @@ impl Guess {
                 agent,
                 frame,
                 answer,
-            } => self.answer(*agent, frame, answer),
+            } => self.answer(*agent, frame, answer, unseen),
             Entry::Delivered { agent, message } => self.take(*agent, message),
             Entry::Asked {
                 place,
@@ -217,36 +217,43 @@ impl Guess {
     }
 
     /// The same of an answer.
-    fn answer(&mut self, agent: u32, frame: &Frame, answer: &Answer) -> bool
-        ensures gives { result ≡ true → (may : Hidden)
-            → Gives may self.old (entry.Answered agent frame.now answer.now) self.new }
-        ensures not { result ≡ false → (may : Hidden)
-            → GivesNot may self.old (entry.Answered agent frame.now answer.now) }
+    fn answer(&mut self, agent: u32, frame: &Frame, answer: &Answer, unseen: Unseen) -> bool
+        ensures gives { result ≡ true
+            → Gives unseen self.old (entry.Answered agent frame.now answer.now) self.new }
+        ensures not { result ≡ false
+            → GivesNot unseen self.old (entry.Answered agent frame.now answer.now) }
         ensures board { self.new.platform.board ≡ self.old.platform.board }
     {
         if !self.has_agent(agent) {
             return false;
         }
-        if has_succeeded(answer) {
-            return self.execute(agent, frame, answer);
+        let Some(fault) = fault_shown(answer) else {
+            return self.execute(agent, frame, answer, unseen);
+        };
+        if !unseen.may_fail(fault) {
+            return self.execute(agent, frame, answer, unseen);
         }
         let mut failed = Message::default();
-        match self.platform.command_failed(agent, frame, &mut failed) {
+        match self
+            .platform
+            .command_failed(agent, frame, fault, &mut failed)
+        {
             Ok(()) => is_same_answer(&Answer::Reply(failed), answer),
-            Err(_) => self.execute(agent, frame, answer),
+            Err(_) => self.execute(agent, frame, answer, unseen),
         }
     }
 
     /// The same of an answer that shows no refusal of the hardware, to an agent of the board.
-    fn execute(&mut self, agent: u32, frame: &Frame, answer: &Answer) -> bool
+    fn execute(&mut self, agent: u32, frame: &Frame, answer: &Answer, unseen: Unseen) -> bool
         requires agent { IsAgent (length self.old.platform.board.agents) agent }
         requires done { (h : List Event) → StandsAfter self.old.platform h
             → effect_after self.old.platform.board h (Command agent frame.now) ≢ None
-            → answer.now ≢ failed_answer frame.now }
-        ensures gives { result ≡ true → (may : Hidden)
-            → Gives may self.old (entry.Answered agent frame.now answer.now) self.new }
-        ensures not { result ≡ false → (may : Hidden)
-            → GivesNot may self.old (entry.Answered agent frame.now answer.now) }
+            → (fault : Faults) → MayFail unseen (CommandFailed agent frame.now fault)
+            → answer.now ≢ failed_answer frame.now fault }
+        ensures gives { result ≡ true
+            → Gives unseen self.old (entry.Answered agent frame.now answer.now) self.new }
+        ensures not { result ≡ false
+            → GivesNot unseen self.old (entry.Answered agent frame.now answer.now) }
         ensures board { self.new.platform.board ≡ self.old.platform.board }
     {
         match self.executed(agent, frame) {

@@ -253,7 +253,7 @@ impl Guesses {
         ensures memory { IfErr result (λ stop. stop ≡ Stop.Memory) }
     {
         self.made.copy_from(&guess);
-        if self.made.show(entry) && !has(&self.left, &self.made) {
+        if self.made.show(entry, self.unseen) && !has(&self.left, &self.made) {
             return self.leave(guess);
         }
         let Ok(()) = self.others.push(guess) else {

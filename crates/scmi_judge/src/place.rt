@@ -73,13 +73,12 @@ impl Place {
     }
 
     /// `Guess::show`.
-    pub fn show(&mut self, entry: &Entry) -> bool
-        ensures gives { result ≡ true → (may : Hidden)
-            → Gives may self.old entry.now self.new }
-        ensures not { result ≡ false → (may : Hidden) → GivesNot may self.old entry.now }
+    pub fn show(&mut self, entry: &Entry, unseen: Unseen) -> bool
+        ensures gives { result ≡ true → Gives unseen self.old entry.now self.new }
+        ensures not { result ≡ false → GivesNot unseen self.old entry.now }
         ensures board { self.new.platform.board ≡ self.old.platform.board }
     {
-        self.guess.show(entry)
+        self.guess.show(entry, unseen)
     }
 
     /// `Guess::due`.

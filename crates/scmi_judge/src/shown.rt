@@ -1,9 +1,9 @@
 //! What the answer of an entry shows.
 ghost use Rattle.std.specs.Prelude.{◌≡◌};
-ghost use Rattle.scmi_judge.specs.Shown.{has_succeeded, set_shown, sets_value, value_shown};
+ghost use Rattle.scmi_judge.specs.Shown.{fault_in_words, fault_shown, has_succeeded, set_shown, sets_value, value_shown};
 
 use scmi_codec::{
-    Answer, ClockCommand, Command, Message, PowerCommand, Status, is_success, rate_of,
+    Answer, ClockCommand, Command, Fault, Message, PowerCommand, Status, is_success, rate_of,
 };
 
 /// Whether an answer is a reply that begins with SUCCESS.
@@ -13,6 +13,27 @@ pub fn has_succeeded(answer: &Answer) -> bool
     match answer {
         Answer::Reply(message) => is_success(&message.payload),
         Answer::Released | Answer::ChannelError => false,
+    }
+}
+
+/// The fault of the hardware that an answer shows; `None` if it is no reply with the status of one
+/// alone.
+pub(crate) fn fault_shown(answer: &Answer) -> Option<Fault>
+    ensures { result ≡ fault_shown answer.now }
+{
+    match answer {
+        Answer::Reply(message) => fault_in_words(message.payload.as_slice()),
+        Answer::Released | Answer::ChannelError => None,
+    }
+}
+
+/// The fault that the payload of a reply shows.
+fn fault_in_words(words: &[u32]) -> Option<Fault>
+    ensures { result ≡ fault_in_words words.now }
+{
+    match words {
+        [word] => Fault::of_status(Status::of_word(*word)?),
+        _ => None,
     }
 }
 

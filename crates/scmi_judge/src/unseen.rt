@@ -1,8 +1,9 @@
 //! What happens to a platform that no entry of a record shows by itself.
-ghost use Rattle.std.specs.Prelude.{◌≡◌, ◌<◌};
+ghost use Rattle.std.specs.Prelude.{◌≡◌, ◌≢◌, ◌<◌, ◌⊎◌, ◌↔◌, true};
 ghost use Rattle.scmi_judge.specs.Unseen.{count_of, step_of};
 
 use crate::outstanding::OUTSTANDING;
+use scmi_codec::Fault;
 
 /// What may happen that no entry shows by itself.
 #[derive(Clone, Copy, PartialEq, Eq, Debug)]
@@ -67,10 +68,21 @@ impl Act {
 /// that complete and messages that are posted.
 #[derive(Clone, Copy, PartialEq, Eq, Debug)]
 pub struct Unseen {
-    /// Which changes of pending sets the hardware may refuse.
+    /// Which changes of pending sets the hardware may refuse. If any, it may also refuse a command's
+    /// change with another fault than HARDWARE_ERROR.
     pub refusals: Refusals,
     /// Whether agents may restart.
     pub restarts: bool,
+}
+
+impl Unseen {
+    /// Whether the hardware may refuse a command's change with a fault.
+    pub(crate) fn may_fail(self, fault: Fault) -> bool
+        ensures { (result ≡ true)
+            ↔ ((fault ≡ Fault.HardwareError) ⊎ (self.refusals ≢ Refusals.None)) }
+    {
+        fault == Fault::HardwareError || self.refusals != Refusals::None
+    }
 }
 
 /// The hardware refuses no change, and no agent restarts: the default.

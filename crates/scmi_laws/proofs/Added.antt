@@ -1,18 +1,31 @@
 -- What one more event adds to a legal history, by the situations before it.
-use Rattle.std.proofs.Common.{◌≡◌, ℕ, ◌+◌, ◌≤◌, List, [], ◌∷◌, ◌++◌, length, ap, ◌∙◌, if◌then◌else◌}
+use Rattle.std.proofs.Common.{◌≡◌, ℕ, ◌+◌, ◌≤◌, true, not, List, [], ◌∷◌, ◌++◌, length, refl, ap, ◌∙◌, if◌then◌else◌}
 use Rattle.std.specs.Option.{option_to_list}
+use Rattle.scmi_codec.specs.Payload.{begins_with_success}
 use Rattle.scmi_plan.specs.Board.{Board}
 use Rattle.scmi_core.specs.declared.event.Event.{Event}
+use Rattle.scmi_codec.specs.declared.fault.Fault.{Fault}
+use Rattle.scmi_codec.specs.declared.fault.Fault.TheVariants as fault
 use Rattle.scmi_core.specs.Deed.{Deed}
 use Rattle.scmi_core.specs.History.{deed_after, deeds}
 use Rattle.scmi_core.specs.Legal.{IsLegal}
-use Rattle.scmi_core.specs.Outbox.{is_restart_of, is_sent_by, messages_left, messages_made, sent_count, situation_after}
+use Rattle.scmi_core.specs.Outbox.{failed_words, is_restart_of, is_sent_by, messages_left, messages_made, sent_count, situation_after}
 use Rattle.scmi_core.specs.Pending.{accepted_sets, advances, pending_sets}
 use Rattle.scmi_core.specs.Value.{changes}
 use Rattle.scmi_core.proofs.Deeds.{changes-push, sent_count-push}
 use Rattle.scmi_core.proofs.Following.{change-is, change_in, made_next, messages-next, next, pending_next, situation-next}
 use Rattle.scmi_core.proofs.Legal.{advances_le-accepted, deeds-push, sent_le-made}
 use Rattle.scmi_laws.specs.Others.{situation_of}
+
+-- the status of no fault is success
+pub unsuccessful : (f : Fault) → not (begins_with_success (failed_words f)) ≡ true
+unsuccessful fault.NotSupported = refl
+unsuccessful fault.InvalidParameters = refl
+unsuccessful fault.Denied = refl
+unsuccessful fault.OutOfRange = refl
+unsuccessful fault.Busy = refl
+unsuccessful fault.GenericError = refl
+unsuccessful fault.HardwareError = refl
 
 module _ (board : Board) (h : List Event) (e : Event) (legal : IsLegal board h) where
   abbrev ds : List Deed

@@ -9,25 +9,29 @@ use Rattle.scmi_codec.specs.declared.message.Message.{Message}
 use Rattle.scmi_plan.specs.Board.{Board, channel_of}
 use Rattle.scmi_plan.specs.declared.limits.TheConstants.{PENDING_SETS}
 use Rattle.scmi_plan.specs.declared.resource.Resource.{Resource}
+use Rattle.scmi_plan.specs.declared.effect.Effect.{Effect}
+use Rattle.scmi_plan.specs.declared.effect.Effect.TheVariants as effect
 use Rattle.scmi_core.specs.declared.event.Event.{Event}
-use Rattle.scmi_core.specs.declared.event.Event.TheVariants.{Advance, AdvanceFailed, CommandFailed, Restarted, Sent}
+use Rattle.scmi_codec.specs.declared.fault.Fault.{Fault}
+use Rattle.scmi_core.specs.declared.event.Event.TheVariants.{Advance, AdvanceFailed, CommandFailed, Reported, Restarted, Sent}
 use Rattle.scmi_core.specs.declared.outboxes.TheConstants.{OUTBOX_ROOM}
 use Rattle.scmi_core.specs.declared.pending_set.PendingSet.{PendingSet}
 use Rattle.scmi_core.specs.declared.pending_set.Setting.{Setting}
 use Rattle.scmi_core.specs.declared.pending_set.Setting.TheVariants as setting
+use Rattle.scmi_core.specs.Agents.{answers_to}
 use Rattle.scmi_core.specs.Deed.{Deed}
 use Rattle.scmi_core.specs.Laws.{is_refused}
 use Rattle.scmi_core.specs.Legal.{IsLegal}
-use Rattle.scmi_core.specs.Outbox.{failed_response_for, notice_in, response_for}
+use Rattle.scmi_core.specs.Outbox.{failed_response_for, made_in, notice_in, response_for}
 use Rattle.scmi_core.specs.Pending.{has_set_of, is_set_by, sets_by, unwanted}
 use Rattle.scmi_core.specs.Situation.{Situation}
-use Rattle.scmi_core.specs.Value.{completion, set_to_change}
+use Rattle.scmi_core.specs.Value.{Change, change_reported, completion, set_to_change}
 use Rattle.scmi_core.proofs.Following.{next}
-use Rattle.scmi_core.proofs.Isolation.{refused}
+use Rattle.scmi_core.proofs.Isolation.{answers-push, refused}
 use Rattle.scmi_core.proofs.Legal.{IsLegal-front, IsLegal-last}
 use Rattle.scmi_core.proofs.Situations.{nothing-made}
-use Rattle.scmi_laws.specs.Others.{SeesCompletion, SeesFailure, SeesRestart, AreSeenAlike, situation_of}
-use Rattle.scmi_laws.proofs.Added.{situation-more}
+use Rattle.scmi_laws.specs.Others.{IsUnanswered, SeesCompletion, SeesFailure, SeesReport, SeesRestart, AreSeenAlike, situation_of, value_with}
+use Rattle.scmi_laws.proofs.Added.{situation-more, unsuccessful}
 use Rattle.scmi_laws.proofs.Reaching.{HasAtMostOne, notices, notified}
 
 -- A SET ENDS
@@ -76,15 +80,16 @@ module _ (board : Board) (b : ℕ) (s : Situation) (p : PendingSet) (ps : List P
   }
 
   -- or it fails
-  fails : SeesFailure b stood (next board b stood (ended AdvanceFailed))
-  fails = record {
+  fails : (fault : Fault)
+      → SeesFailure b fault stood (next board b stood (ended (AdvanceFailed fault)))
+  fails fault = record {
     set = p;
     pending = refl;
     value = λ x. refl;
     rights = record { allowed = λ d scope. refl; subscribed = λ d. refl };
     outbox =
-        ap (λ ms. s.outbox ++ (failed_response_for b p ++ ms)) (nothing-made b stood ps)
-        ∙ ap (λ ms. s.outbox ++ ms) (append-nil (failed_response_for b p));
+        ap (λ ms. s.outbox ++ (failed_response_for b fault p ++ ms)) (nothing-made b stood ps)
+        ∙ ap (λ ms. s.outbox ++ ms) (append-nil (failed_response_for b fault p));
   }
 
 pub advance : (board : Board) (h : List Event) (b : ℕ) → IsLegal board (h ++ Advance ∷ [])
@@ -100,19 +105,22 @@ advance board h b legal =
     by [] waits = absurd (omega arith)
     by (p ∷ ps) waits = completes board b (situation_of board b h) p ps
 
-pub advance_failed : (board : Board) (h : List Event) (b : ℕ)
-    → IsLegal board (h ++ AdvanceFailed ∷ [])
-    → SeesFailure b (situation_of board b h) (situation_of board b (h ++ AdvanceFailed ∷ []))
-advance_failed board h b legal =
-    subst (SeesFailure b (situation_of board b h))
-    (sym (situation-more board h AdvanceFailed (IsLegal-front board h AdvanceFailed legal) b))
-    (by (situation_of board b h).pending (IsLegal-last board h AdvanceFailed legal))
+pub advance_failed : (board : Board) (h : List Event) (fault : Fault) (b : ℕ)
+    → IsLegal board (h ++ AdvanceFailed fault ∷ [])
+    → SeesFailure b fault (situation_of board b h)
+    (situation_of board b (h ++ AdvanceFailed fault ∷ []))
+advance_failed board h fault b legal =
+    let e = AdvanceFailed fault in
+    subst (SeesFailure b fault (situation_of board b h))
+    (sym (situation-more board h e (IsLegal-front board h e legal) b))
+    (by (situation_of board b h).pending (IsLegal-last board h e legal))
   where
     by : (pending : List PendingSet) → 0 < length pending
-        → SeesFailure b (record (situation_of board b h) { pending = pending })
-        (next board b (record (situation_of board b h) { pending = pending }) (ended AdvanceFailed))
+        → SeesFailure b fault (record (situation_of board b h) { pending = pending })
+        (next board b (record (situation_of board b h) { pending = pending })
+        (ended (AdvanceFailed fault)))
     by [] waits = absurd (omega arith)
-    by (p ∷ ps) waits = fails board b (situation_of board b h) p ps
+    by (p ∷ ps) waits = fails board b (situation_of board b h) p ps fault
 
 -- A POSTING TO ANOTHER AGENT
 
@@ -142,18 +150,20 @@ sent board h a b legal differ =
 
 -- A COMMAND THAT FAILED
 
-failed-refused : (board : Board) (h : List Event) (a : ℕ) (frame : Frame)
-    → is_refused board a h (CommandFailed a frame) ≡ true
-failed-refused board h a (Good m) =
-    ap (λ own. is_some (if own then Some (Good m) else None) && true) (eq-eqb a a refl)
-failed-refused board h a (Malformed len header) =
+failed-refused : (board : Board) (h : List Event) (a : ℕ) (frame : Frame) (fault : Fault)
+    → is_refused board a h (CommandFailed a frame fault) ≡ true
+failed-refused board h a (Good m) fault =
+    (λ i. is_some (if eq-eqb a a refl i then Some (Good m) else None) && unsuccessful fault i)
+failed-refused board h a (Malformed len header) fault =
     ap (λ own. is_some (if own then Some (Malformed len header) else None) && true)
     (eq-eqb a a refl)
 
-pub command_failed : (board : Board) (h : List Event) (a b : ℕ) (frame : Frame) → IsLegal board h
-    → situation_of board b (h ++ CommandFailed a frame ∷ []) ≡ situation_of board b h
-command_failed board h a b frame legal =
-    (refused board h a (CommandFailed a frame) legal (failed-refused board h a frame)).situations b
+pub command_failed : (board : Board) (h : List Event) (a b : ℕ) (frame : Frame) (fault : Fault)
+    → IsLegal board h
+    → situation_of board b (h ++ CommandFailed a frame fault ∷ []) ≡ situation_of board b h
+command_failed board h a b frame fault legal =
+    let e = CommandFailed a frame fault in
+    (refused board h a e legal (failed-refused board h a frame fault)).situations b
 
 -- A RESTART OF ANOTHER AGENT
 
@@ -214,3 +224,68 @@ restarted board h a b legal differ =
       moved = is;
       alike = subst (AreSeenAlike board b s) (sym is) (seen-alike board a b s differ);
     }
+
+-- A REPORT OF THE HARDWARE
+
+unowned : (effect : Effect) → (change_reported effect).causer ≡ 0
+unowned (effect.State d state) = refl
+unowned (effect.Rate c rate) = refl
+unowned (effect.Enabled c enabled) = refl
+
+module _ (board : Board) (b : ℕ) (s : Situation) (effect : Effect) where
+  abbrev change : Change
+  change = change_reported effect
+
+  abbrev told : List Message
+  told = made_in b s s.pending None (Some change)
+
+  abbrev reported_to : Situation
+  reported_to =
+      record {
+        value = λ x. value_with (Some change) x (s.value x);
+        allowed = s.allowed;
+        subscribed = s.subscribed;
+        pending = s.pending;
+        outbox = s.outbox ++ told;
+      }
+
+  reports : next board b s (ended (Reported effect)) ≡ reported_to
+  reports = λ i.
+      record {
+        value = λ x. value_with (Some change) x (s.value x);
+        allowed = s.allowed;
+        subscribed = s.subscribed;
+        pending = append-nil s.pending i;
+        outbox = s.outbox ++ made_in b s (append-nil s.pending i) None (Some change);
+      }
+
+  told-once : HasAtMostOne 0 s (Some change) told
+  told-once =
+      let load = length s.outbox + 0 + length (sets_by b s.pending) in
+      notices 0 s (nat_lt load OUTBOX_ROOM) (Some change)
+      (λ it is.
+      sym (ap (λ o. (unwrap_or o it).causer) is) ∙ unowned effect)
+
+  sees-report : SeesReport b effect s reported_to
+  sees-report = record {
+    value = λ x. refl;
+    rights = record { allowed = λ d scope. refl; subscribed = λ d. refl };
+    pending = refl;
+    made = refl;
+    outbox =
+        notified 0 s reported_to (Some change) s.outbox told (λ d. refl) refl told-once;
+  }
+
+pub reported : (board : Board) (h : List Event) (effect : Effect) (b : ℕ) → IsLegal board h
+    → SeesReport b effect (situation_of board b h)
+    (situation_of board b (h ++ Reported effect ∷ []))
+reported board h effect b legal =
+    let s = situation_of board b h in
+    subst (SeesReport b effect s)
+    (sym (situation-more board h (Reported effect) legal b ∙ reports board b s effect))
+    (sees-report board b s effect)
+
+pub unanswered : (board : Board) (h : List Event) (effect : Effect) (b : ℕ)
+    → IsUnanswered board h (Reported effect) b
+unanswered board h effect b =
+    answers-push board b h (Reported effect) ∙ append-nil (answers_to board b h)

@@ -1,5 +1,5 @@
--- Each change of a legal history came of a command of its own.
-use Rattle.std.proofs.Common.{◌≡◌, ℕ, ◌<◌, ◌≤◌, Bool, true, false, List, [], ◌∷◌, ◌++◌, length, map, drop, slice_get, Option, Some, None, option_map, refl, sym, ap, ◌∙◌, subst, arith, if◌then◌else◌}
+-- Each change of a legal history came of a command or a report of its own.
+use Rattle.std.proofs.Common.{◌≡◌, inl, inr, ℕ, ◌<◌, ◌≤◌, Bool, true, false, List, [], ◌∷◌, ◌++◌, length, map, drop, slice_get, Option, Some, None, option_map, unwrap_or, refl, sym, ap, ◌∙◌, subst, arith, if◌then◌else◌}
 use Rattle.std.specs.List.{AllZip}
 use Rattle.std.specs.Option.{option_and_then, option_or, option_to_list}
 use Rattle.std.proofs.lemmas.List.{append_assoc, append-nil, length-append}
@@ -18,8 +18,9 @@ use Rattle.scmi_plan.specs.Agent.{IsAgent}
 use Rattle.scmi_plan.specs.Board.{Board}
 use Rattle.scmi_clock.specs.ClockTable.{set_rate}
 use Rattle.scmi_clock.specs.SetFlags.{is_asynchronous, is_response_wanted}
+use Rattle.scmi_plan.specs.declared.effect.Effect.{Effect}
 use Rattle.scmi_core.specs.declared.event.Event.{Event}
-use Rattle.scmi_core.specs.declared.event.Event.TheVariants.{Command, Advance, Sent, CommandFailed, AdvanceFailed, Restarted}
+use Rattle.scmi_core.specs.declared.event.Event.TheVariants.{Command, Advance, Sent, CommandFailed, AdvanceFailed, Restarted, Reported}
 use Rattle.scmi_core.specs.declared.pending_set.PendingSet.{PendingSet}
 use Rattle.scmi_core.specs.Deed.{Deed, Success, fold_with_prefix, success_at, success_of}
 use Rattle.scmi_core.specs.History.{deed_after, deeds}
@@ -28,7 +29,7 @@ use Rattle.scmi_core.specs.Legal.{CanFollow, IsLegal}
 use Rattle.scmi_core.specs.Outbox.{situation_after}
 use Rattle.scmi_core.specs.Pending.{acceptance, pending_sets, rate_set, state_set, unwanted}
 use Rattle.scmi_core.specs.Reply.{fits_channel, reply_words}
-use Rattle.scmi_core.specs.Value.{Change, change_now, changes, completion}
+use Rattle.scmi_core.specs.Value.{Change, change_now, change_reported, changes, completion}
 use Rattle.scmi_core.proofs.Causes.{IsOwn, asked-own}
 use Rattle.scmi_core.proofs.Following.{change_in, pending_next}
 use Rattle.scmi_core.proofs.Legal.{Grown, IsLegal-front, IsLegal-last, empty, grow, grown}
@@ -103,14 +104,29 @@ now-asked board None change is = absurd (cc)
 now-asked board (Some s) change is =
     ap (λ now. option_or now (option_map completion (acceptance board s))) is
 
--- THE COMMAND AT A PLACE
+-- THE EVENT AT A PLACE
 
--- one event more leaves a change the command that it came of
+-- one event more leaves a change the command or the report that it came of
 came-kept : (board : Board) (h : List Event) (e : Event) (n : ℕ) (change : Change)
     → CameOf board h n change → CameOf board (h ++ e ∷ []) n change
-came-kept board h e n change had =
+came-kept board h e n change (inr had) =
+    let was = had.report in
+    inr (record {
+      report = record {
+        before = was.before;
+        effect = was.effect;
+        after = was.after ++ e ∷ [];
+        place =
+            ap (λ xs. xs ++ e ∷ []) was.place
+            ∙ append_assoc was.before (Reported was.effect ∷ was.after) (e ∷ []);
+        says = was.says;
+        known = was.known;
+      };
+      place_is = had.place_is;
+    })
+came-kept board h e n change (inl had) =
     let was = had.cause in
-    record {
+    inl (record {
       cause = record {
         before = was.before;
         message = was.message;
@@ -125,7 +141,24 @@ came-kept board h e n change had =
         kept = was.kept;
       };
       place_is = had.place_is;
-    }
+    })
+
+-- a report is that of its change
+said : (board : Board) (h : List Event) (effect : Effect) (change : Change)
+    → CanFollow board h (Reported effect) → Some (change_reported effect) ≡ Some change
+    → CameOf board (h ++ Reported effect ∷ []) (length h) change
+said board h effect change follows is =
+    inr (record {
+      report = record {
+        before = h;
+        effect = effect;
+        after = [];
+        place = refl;
+        says = sym (ap (λ o. unwrap_or o change) is);
+        known = follows;
+      };
+      place_is = refl;
+    })
 
 -- the last command is that of what it asked for
 module _ (board : Board) (h : List Event) (a : ℕ) (m : Message) (change : Change) where
@@ -150,7 +183,7 @@ module _ (board : Board) (h : List Event) (a : ℕ) (m : Message) (change : Chan
   came agent asked =
       let is = own (fits_channel board a m) asked in
       let back = sym is.causer in
-      record {
+      inl (record {
         cause = record {
           before = h;
           message = m;
@@ -164,11 +197,11 @@ module _ (board : Board) (h : List Event) (a : ℕ) (m : Message) (change : Chan
           kept = is.kept;
         };
         place_is = refl;
-      }
+      })
 
 -- PLACES FOR ALL CHANGES AND ALL PENDING SETS
 
--- these changes, and those that these sets are to make, came of commands at different places
+-- these changes, and those that these sets are to make, came of events at different places
 record HasPlaces (board : Board) (h : List Event)
     (cs : List Change) (ps : List PendingSet) : Type 0 where
   pub places : List ℕ
@@ -377,10 +410,10 @@ module _ (board : Board) (h : List Event) (legal : IsLegal board h) (had : IsPla
       (λ p is. came board h a m (completion p) follows (later-asked board success p is)))
   placed (Command a (Malformed len header)) follows =
       onward (Command a (Malformed len header)) (idle (Command a (Malformed len header)))
-  placed (CommandFailed a (Good m)) follows =
-      onward (CommandFailed a (Good m)) (idle (CommandFailed a (Good m)))
-  placed (CommandFailed a (Malformed len header)) follows =
-      let e = CommandFailed a (Malformed len header) in
+  placed (CommandFailed a (Good m) fault) follows =
+      onward (CommandFailed a (Good m) fault) (idle (CommandFailed a (Good m) fault))
+  placed (CommandFailed a (Malformed len header) fault) follows =
+      let e = CommandFailed a (Malformed len header) fault in
       onward e (idle e)
   placed (Sent a) follows = onward (Sent a) (idle (Sent a))
   placed (Restarted a) follows =
@@ -390,13 +423,18 @@ module _ (board : Board) (h : List Event) (legal : IsLegal board h) (had : IsPla
       (subst (λ it. HasPlaces board h' it (left ++ [])) (sym (append-nil cs))
       (subst (λ it. HasPlaces board h' cs it) (sym (append-nil left))
       (restarted board h' cs a ps (kept board h (Restarted a) cs ps had))))
+  placed (Reported effect) follows =
+      let e = Reported effect in
+      onward e
+      (one-more board h e cs ps had (Some (change_reported effect)) None (λ p is. absurd (cc))
+      (λ c is. said board h effect c follows is) (λ p is. absurd (cc)))
   placed Advance follows =
       onward Advance (first board (h ++ Advance ∷ []) cs ps (kept board h Advance cs ps had))
-  placed AdvanceFailed follows =
-      let h' = h ++ AdvanceFailed ∷ [] in
-      onward AdvanceFailed
+  placed (AdvanceFailed fault) follows =
+      let h' = h ++ AdvanceFailed fault ∷ [] in
+      onward (AdvanceFailed fault)
       (subst (λ it. HasPlaces board h' it (drop 1 ps)) (sym (append-nil cs))
-      (failed board h' cs ps (kept board h AdvanceFailed cs ps had)))
+      (failed board h' cs ps (kept board h (AdvanceFailed fault) cs ps had)))
 
 places : (board : Board) {h : List Event} → Grown h → IsLegal board h → IsPlaced board h
 unfolding deeds fold_with_prefix

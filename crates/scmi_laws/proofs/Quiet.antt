@@ -17,7 +17,7 @@ use Rattle.scmi_codec.specs.declared.frame.Frame.TheVariants.{Good, Malformed}
 use Rattle.scmi_plan.specs.Board.{Board}
 use Rattle.scmi_plan.specs.declared.scope.Scope.{Scope}
 use Rattle.scmi_core.specs.declared.event.Event.{Event}
-use Rattle.scmi_core.specs.declared.event.Event.TheVariants.{Command, Advance, Sent, CommandFailed, AdvanceFailed, Restarted}
+use Rattle.scmi_core.specs.declared.event.Event.TheVariants.{Command, Advance, Sent, CommandFailed, AdvanceFailed, Restarted, Reported}
 use Rattle.scmi_core.specs.declared.pending_set.PendingSet.{PendingSet}
 use Rattle.scmi_core.specs.Agents.{answer_for, frame_from, frames_of}
 use Rattle.scmi_core.specs.Deed.{Deed, Success, fold_with_prefix, restarted_by, success_with}
@@ -31,7 +31,7 @@ use Rattle.scmi_core.specs.Permissions.{permission_in}
 use Rattle.scmi_core.specs.Reply.{answer_in}
 use Rattle.scmi_core.specs.Situation.{Situation}
 use Rattle.scmi_core.specs.Subscriptions.{subscription, subscription_after_reset}
-use Rattle.scmi_core.specs.Value.{change_now, change_of, changes, value_in}
+use Rattle.scmi_core.specs.Value.{change_now, change_of, changes, fault_in, reported, value_in}
 use Rattle.scmi_core.proofs.Deeds.{IsLegal-push, added_success, fold_with_prefix-push, pending_left}
 use Rattle.scmi_core.proofs.Following.{change-is, change_in, completed_in, deed-same, failed_in, made_next, next, pending_next}
 use Rattle.scmi_core.proofs.Isolation.{answers-push, refused}
@@ -40,7 +40,7 @@ use Rattle.scmi_core.proofs.Legal.{Grown, IsLegal-front, IsLegal-last, IsLegal-n
 use Rattle.scmi_core.proofs.Situations.{nothing-made}
 use Rattle.scmi_laws.specs.Others.{situation_of}
 use Rattle.scmi_laws.specs.Reads.{DoesNothing, HasQuietReads, is_quiet, is_read_frame, only_reads, without_quiet}
-use Rattle.scmi_laws.proofs.Added.{changed-more, made-more, sent-more, situation-more}
+use Rattle.scmi_laws.proofs.Added.{changed-more, made-more, sent-more, situation-more, unsuccessful}
 use Rattle.scmi_laws.proofs.Harmless.{harmless}
 
 -- A QUIET COMMAND
@@ -66,7 +66,7 @@ module _ (board : Board) (b : ℕ) (s : Situation) (deed : Deed) (c : ℕ) (fram
 
   no-change : change_in board s.pending deed ≡ None
   no-change =
-      ap (λ it. change_of board success (completed_in s.pending it)) event
+      ap (λ it. option_or (reported it) (change_of board success (completed_in s.pending it))) event
       ∙ unsaid board (change_now board) (λ it silent. silent.change) success nothing
 
   same-pending : left ≡ s.pending
@@ -79,7 +79,7 @@ module _ (board : Board) (b : ℕ) (s : Situation) (deed : Deed) (c : ℕ) (fram
 
   nothing-next : made_next board b s deed ≡ []
   nothing-next =
-      ap (λ it. option_map_or (failed_response_for b) (failed_in s.pending it) []
+      ap (λ it. option_map_or (failed_response_for b (fault_in it)) (failed_in s.pending it) []
       ++ made_in b s left (completed_in s.pending it) (change_in board s.pending deed)) event
       ∙ ap (made_in b s left None) no-change
       ∙ nothing-made b s left
@@ -118,12 +118,12 @@ own_true true refused frame is = (refl, is)
 own_true false refused frame is = absurd (cc)
 
 -- and one that failed, which is refused
-own_refused : (own : Bool) (frame : Frame)
-    → (is_some (if own then Some frame else None) && true
+own_refused : (own refused : Bool) (frame : Frame) → refused ≡ true
+    → (is_some (if own then Some frame else None) && refused
     || option_map_or is_read_frame (if own then Some frame else None) false) ≡ true
-    → (is_some (if own then Some frame else None) && true) ≡ true
-own_refused true frame is = refl
-own_refused false frame is = absurd (cc)
+    → (is_some (if own then Some frame else None) && refused) ≡ true
+own_refused true refused frame so is = so
+own_refused false refused frame so is = absurd (cc)
 
 -- its success, if it is one, does nothing
 module _ (board : Board) (c : ℕ) where
@@ -174,15 +174,18 @@ read board h a (Command c frame) legal is =
           situation-more board h e legal b
           ∙ next-same board b (situation_of board b h) deed c frame event nothing;
     }
-read board h a (CommandFailed c (Good m)) legal is =
-    refused board h a (CommandFailed c (Good m)) legal (own_refused (a == c) (Good m) is)
-read board h a (CommandFailed c (Malformed len header)) legal is =
+read board h a (CommandFailed c (Good m) fault) legal is =
+    let e = CommandFailed c (Good m) fault in
+    refused board h a e legal (own_refused (a == c) _ (Good m) (unsuccessful fault) is)
+read board h a (CommandFailed c (Malformed len header) fault) legal is =
     let frame = Malformed len header in
-    refused board h a (CommandFailed c frame) legal (own_refused (a == c) frame is)
+    let e = CommandFailed c frame fault in
+    refused board h a e legal (own_refused (a == c) true frame refl is)
 read board h a Advance legal is = absurd (cc)
-read board h a AdvanceFailed legal is = absurd (cc)
+read board h a (AdvanceFailed fault) legal is = absurd (cc)
 read board h a (Sent c) legal is = absurd (cc)
 read board h a (Restarted c) legal is = absurd (cc)
+read board h a (Reported effect) legal is = absurd (cc)
 
 -- THE SAME EVENT AFTER TWO HISTORIES
 
@@ -199,24 +202,27 @@ module _ (board : Board) (h k : List Event)
   one-answer : (b : ℕ) (e : Event) → answer_for board b h e ≡ answer_for board b k e
   one-answer b (Command c frame) =
       ap (λ s. if b == c then answer_in board c frame s ∷ [] else []) (same c)
-  one-answer b (CommandFailed c frame) = refl
+  one-answer b (CommandFailed c frame fault) = refl
   one-answer b Advance = refl
-  one-answer b AdvanceFailed = refl
+  one-answer b (AdvanceFailed fault) = refl
   one-answer b (Sent c) = refl
   one-answer b (Restarted c) = refl
+  one-answer b (Reported effect) = refl
 
   both-follow : (e : Event) → CanFollow board k e → CanFollow board h e
   unfolding outbox
   both-follow (Command c frame) follows = follows
-  both-follow (CommandFailed c frame) follows =
+  both-follow (CommandFailed c frame fault) follows =
       let e = Command c frame in
       let of_h = change-is board (deeds board h) (deed_after board (deeds board h) e) in
       let of_k = change-is board (deeds board k) (deed_after board (deeds board k) e) in
       let change = of_k ∙ sym (one-change e) ∙ sym of_h in
       (follows.0, subst (λ it. option_map effect_of it ≢ None) change follows.1)
   both-follow (Restarted c) follows = follows
+  both-follow (Reported effect) follows = follows
   both-follow Advance follows = subst (λ s. 0 < length s.pending) (sym (same 0)) follows
-  both-follow AdvanceFailed follows = subst (λ s. 0 < length s.pending) (sym (same 0)) follows
+  both-follow (AdvanceFailed fault) follows =
+      subst (λ s. 0 < length s.pending) (sym (same 0)) follows
   both-follow (Sent c) follows =
       (follows.0, follows.1, subst (λ s. 0 < length s.outbox) (sym (same c)) follows.2)
 

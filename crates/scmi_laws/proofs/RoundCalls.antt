@@ -457,8 +457,8 @@ command-leaves board h a e is legal = by is.1
     by : IsCommandOf a is.0 e → LeavesMore board h (h ++ e ∷ [])
     by (inl same) =
         record { accepted = _; left = pending-by board h e (Command a is.0) legal same }
-    by (inr same) =
-        record { accepted = _; left = pending-by board h e (CommandFailed a is.0) legal same }
+    by (inr (fault, same)) =
+        record { accepted = _; left = pending-by board h e (CommandFailed a is.0 fault) legal same }
 
 leaves-on : (board : Board) (h k l : List Event) → LeavesMore board h k → LeavesMore board k l
     → LeavesMore board h l
@@ -508,7 +508,8 @@ ends-first : (board : Board) (h : List Event) (e : Event) → IsEnd e → IsLega
     → pending_sets board (deeds board (h ++ e ∷ []))
     ≡ drop 1 (pending_sets board (deeds board h))
 ends-first board h e (inl is) legal = pending-by board h e Advance legal is
-ends-first board h e (inr is) legal = pending-by board h e AdvanceFailed legal is
+ends-first board h e (inr (fault, is)) legal =
+    pending-by board h e (AdvanceFailed fault) legal is
 
 -- THE ROUND AS A WHOLE
 

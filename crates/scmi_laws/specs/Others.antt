@@ -1,18 +1,21 @@
 -- What one agent's command is to another agent, and what each other event is to an agent.
-use Rattle.std.specs.Prelude.{◌≡◌, ◌≢◌, ◌⊎◌, ℕ, true, List, [], ◌∷◌, ◌++◌, map, Option, Some, unwrap_or, IfSome}
+use Rattle.std.specs.Prelude.{◌≡◌, ◌≢◌, ◌⊎◌, ℕ, true, List, [], ◌∷◌, ◌++◌, map, Option, None, Some, unwrap_or, IfSome}
 use Rattle.std.specs.Option.{option_and_then, option_to_list}
 use Rattle.scmi_codec.specs.declared.message.Message.{Message}
 use Rattle.scmi_plan.specs.Board.{Board}
 use Rattle.scmi_plan.specs.declared.resource.Resource.{Resource}
 use Rattle.scmi_plan.specs.declared.scope.Scope.{Scope}
+use Rattle.scmi_plan.specs.declared.effect.Effect.{Effect}
 use Rattle.scmi_core.specs.declared.event.Event.{Event}
+use Rattle.scmi_codec.specs.declared.fault.Fault.{Fault}
 use Rattle.scmi_core.specs.declared.pending_set.PendingSet.{PendingSet}
+use Rattle.scmi_core.specs.Agents.{answers_to}
 use Rattle.scmi_core.specs.History.{deeds}
 use Rattle.scmi_core.specs.Laws.{may_after}
-use Rattle.scmi_core.specs.Outbox.{failed_response_for, response_for, situation_after, state_changed}
+use Rattle.scmi_core.specs.Outbox.{failed_response_for, made_in, response_for, situation_after, state_changed}
 use Rattle.scmi_core.specs.Pending.{has_set_of, unwanted}
 use Rattle.scmi_core.specs.Situation.{Situation, has_room}
-use Rattle.scmi_core.specs.Value.{Change, State, Thing, completion, value_in}
+use Rattle.scmi_core.specs.Value.{Change, State, Thing, change_reported, completion, value_in}
 
 -- the situation of agent b after a history
 abbrev pub situation_of : Board → ℕ → List Event → Situation
@@ -93,16 +96,18 @@ pub record SeesCompletion (b : ℕ) (s t : Situation) : Type 0 where
   pub outbox : (t.outbox ≡ answered)
       ⊎ ((d : ℕ) × IsNotified set.agent d (record s { outbox = answered }) t)
 
--- the first pending set ends as failed, as agent b in situation s sees it, which is then t
-pub record SeesFailure (b : ℕ) (s t : Situation) : Type 0 where
+-- the first pending set ends as failed with this fault, as agent b in situation s sees it, which is
+-- then t
+pub record SeesFailure (b : ℕ) (fault : Fault) (s t : Situation) : Type 0 where
   pub set : PendingSet
   -- that set is gone, and the others stay in order
   pub pending : s.pending ≡ set ∷ t.pending
   -- no value is changed
   pub value : (x : Thing) → t.value x ≡ s.value x
   pub rights : KeepsRights s t
-  -- the agent gets the delayed response, if the set is its own and it wants one
-  pub outbox : t.outbox ≡ s.outbox ++ failed_response_for b set
+  -- the agent gets the delayed response with the status of the fault, if the set is its own and it
+  -- wants one
+  pub outbox : t.outbox ≡ s.outbox ++ failed_response_for b fault set
 
 -- agent a restarts, as agent b in situation s sees it, which is then t
 pub record SeesRestart (board : Board) (a b : ℕ) (s t : Situation) : Type 0 where
@@ -110,3 +115,21 @@ pub record SeesRestart (board : Board) (a b : ℕ) (s t : Situation) : Type 0 wh
   pub moved : t ≡ record s { pending = map (unwanted a) s.pending }
   -- on which no answer depends
   pub alike : AreSeenAlike board b s t
+
+-- the hardware reports a change that it made by itself, as agent b in situation s sees it, which is
+-- then t
+pub record SeesReport (b : ℕ) (effect : Effect) (s t : Situation) : Type 0 where
+  -- its domain or clock has the value that it says, and everything else the value that it had
+  pub value : (x : Thing) → t.value x ≡ value_with (Some (change_reported effect)) x (s.value x)
+  pub rights : KeepsRights s t
+  -- each set stays pending
+  pub pending : t.pending ≡ s.pending
+  -- the agent gets what that change makes for it
+  pub made : t.outbox ≡ s.outbox ++ made_in b s s.pending None (Some (change_reported effect))
+  -- which is at most one notification, of the state that was reported, with the platform, 0, as
+  -- causer
+  pub outbox : (t.outbox ≡ s.outbox) ⊎ ((d : ℕ) × IsNotified 0 d s t)
+
+-- one more event gives no answer to agent b
+abbrev pub IsUnanswered : Board → List Event → Event → ℕ → Type 0
+IsUnanswered board h event b = answers_to board b (h ++ event ∷ []) ≡ answers_to board b h

@@ -4,7 +4,7 @@
 //! is the contract of `every_read`: reads move nobody. A legal history without one agent's reads
 //! and refused commands is as legal, and the same to every other agent. `every_other_agent` and
 //! `every_event` have all that other commands and the other events are to another agent.
-//! `every_change`: no two changes came of one command.
+//! `every_change`: no two changes came of one command or one report of the hardware.
 //!
 //! `run_round` is progress, as far as calls go: it serves each agent once, ends the first pending
 //! set, and flushes each outbox once. Then no agent is owed an answer, that set is gone, and a

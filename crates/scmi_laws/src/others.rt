@@ -3,9 +3,11 @@ ghost use Rattle.std.specs.Prelude.{◌≡◌, ◌≢◌, ◌++◌, ◌∷◌, [
 ghost use Rattle.scmi_codec.specs.declared.frame.Frame.{Frame};
 ghost use Rattle.scmi_core.specs.History.{answer_to};
 ghost use Rattle.scmi_core.specs.Legal.{IsLegal};
+ghost use Rattle.scmi_plan.specs.declared.effect.Effect.{Effect};
 ghost use Rattle.scmi_core.specs.declared.event.Event.{Event};
-ghost use Rattle.scmi_core.specs.declared.event.Event.TheVariants.{Advance, AdvanceFailed, Command, CommandFailed, Restarted, Sent};
-ghost use Rattle.scmi_laws.specs.Others.{Reaches, SeesCompletion, SeesFailure, SeesRestart, SeesTheSame, situation_of};
+ghost use Rattle.scmi_codec.specs.declared.fault.Fault.{Fault};
+ghost use Rattle.scmi_core.specs.declared.event.Event.TheVariants.{Advance, AdvanceFailed, Command, CommandFailed, Reported, Restarted, Sent};
+ghost use Rattle.scmi_laws.specs.Others.{IsUnanswered, Reaches, SeesCompletion, SeesFailure, SeesReport, SeesRestart, SeesTheSame, situation_of};
 ghost use Rattle.scmi_plan.specs.Board.{Board};
 
 /// All that one agent's command is to another agent, in every legal history of every board, whoever
@@ -30,25 +32,33 @@ pub fn every_other_agent()
 ///
 /// A completion gives one value, takes one pending set, the first, and makes no more than the
 /// delayed response to its own agent and one notification. A set that ends as failed changes no
-/// value, and makes no more than that response. A posting to another agent, and a command that
-/// failed, whoever asked it, leave an agent's situation as it was. A restart of another agent ends
-/// no set: it only drops that agent's wish for delayed responses, on which no answer depends.
+/// value, and makes no more than that response, which has the status of the fault. A posting to
+/// another agent, and a command that failed, whoever asked it and whatever the fault, leave an
+/// agent's situation as it was. A restart of another agent ends no set: it only drops that agent's
+/// wish for delayed responses, on which no answer depends. A report of the hardware gives one
+/// value, leaves permissions, requests and pending sets, answers nobody, and makes no more than one
+/// notification, with the platform, 0, as causer.
 pub fn every_event()
     ensures advance { (board : Board) (h : List Event) (b : ℕ)
         → IsLegal board (h ++ Advance ∷ [])
         → SeesCompletion b (situation_of board b h) (situation_of board b (h ++ Advance ∷ [])) }
-    ensures advance_failed { (board : Board) (h : List Event) (b : ℕ)
-        → IsLegal board (h ++ AdvanceFailed ∷ [])
-        → SeesFailure b (situation_of board b h)
-        (situation_of board b (h ++ AdvanceFailed ∷ [])) }
+    ensures advance_failed { (board : Board) (h : List Event) (fault : Fault) (b : ℕ)
+        → IsLegal board (h ++ AdvanceFailed fault ∷ [])
+        → SeesFailure b fault (situation_of board b h)
+        (situation_of board b (h ++ AdvanceFailed fault ∷ [])) }
     ensures sent { (board : Board) (h : List Event) (a b : ℕ) → IsLegal board h → a ≢ b
         → situation_of board b (h ++ Sent a ∷ []) ≡ situation_of board b h }
     ensures command_failed { (board : Board) (h : List Event) (a b : ℕ) (frame : Frame)
-        → IsLegal board h
-        → situation_of board b (h ++ CommandFailed a frame ∷ []) ≡ situation_of board b h }
+        (fault : Fault) → IsLegal board h
+        → situation_of board b (h ++ CommandFailed a frame fault ∷ []) ≡ situation_of board b h }
     ensures restarted { (board : Board) (h : List Event) (a b : ℕ) → IsLegal board h → a ≢ b
         → SeesRestart board a b (situation_of board b h)
         (situation_of board b (h ++ Restarted a ∷ [])) }
+    ensures reported { (board : Board) (h : List Event) (effect : Effect) (b : ℕ)
+        → IsLegal board h → SeesReport b effect (situation_of board b h)
+        (situation_of board b (h ++ Reported effect ∷ [])) }
+    ensures unanswered { (board : Board) (h : List Event) (effect : Effect) (b : ℕ)
+        → IsUnanswered board h (Reported effect) b }
 {
     // Nothing to do: the clauses hold of every history.
 }

@@ -1,19 +1,21 @@
 -- Lines with names, and the steps that they mean, computed.
-use Rattle.std.proofs.Common.{ℕ, ◌≡◌, List, [], ◌∷◌, map, Option, Some, None, replicate, refl}
+use Rattle.std.proofs.Common.{ℕ, ◌≡◌, true, false, List, [], ◌∷◌, map, Option, Some, None, replicate, refl}
 use Rattle.std.specs.Prelude.{codes}
 use Rattle.scmi_board.specs.Items.{behind_spaces, first_number, item_at, items_up_to}
 use Rattle.scmi_board.specs.Lines.{lines_behind, lines_of}
 use Rattle.scmi_board.specs.Number.{number_of}
 use Rattle.scmi_codec.specs.Listing.{rows_of}
+use Rattle.scmi_codec.specs.declared.fault.Fault.TheVariants.{Busy, Denied, GenericError, HardwareError, OutOfRange}
 use Rattle.scmi_core.specs.BoardB.{board_b}
-use Rattle.scmi_text.specs.Fields.{first_agent, first_message, payload_behind, with_word}
+use Rattle.scmi_plan.specs.declared.effect.Effect.TheVariants.{State, Rate, Enabled}
+use Rattle.scmi_text.specs.Fields.{first_agent, first_flag, first_message, first_named_fault, payload_behind, with_word}
 use Rattle.scmi_text.specs.PackedStep.{call_with, raw_with}
-use Rattle.scmi_text.specs.StepText.{advance_head, agent_head, command_head, first_head, head_of, payload_of, step_of_line, with_step}
+use Rattle.scmi_text.specs.StepText.{advance_head, agent_head, command_head, first_effect, first_head, first_refusal, head_of, payload_of, report_head, step_of_line, with_step}
 use Rattle.scmi_text.specs.TextLines.{after_each_line}
 use Rattle.scmi_text.specs.declared.step.AgentStep.TheVariants as agent
 use Rattle.scmi_text.specs.declared.step.PlatformStep.TheVariants.{Serve}
 use Rattle.scmi_text.specs.declared.step.Step.{Step}
-use Rattle.scmi_text.specs.declared.step.Step.TheVariants.{Agent, Platform, Do, Advance, Fail, AdvanceFailed, Restart}
+use Rattle.scmi_text.specs.declared.step.Step.TheVariants.{Agent, Platform, Do, Advance, Fail, AdvanceFailed, Report, Restart}
 use Rattle.scmi_live.specs.Meant.{step_meant}
 
 -- on a board of the agents ap and modem, the domains cpu, gpu and usb, and the clocks core, bus and pix
@@ -57,6 +59,23 @@ no_words = refl
 
 -- steps beside hardware that refuses, and of an agent that restarts
 beside_hardware : map meant (codes "fail ap POWER_STATE_SET cpu on" ∷ codes "restart modem" ∷ codes "restart 2" ∷ codes "advance failed" ∷ codes "fail 1 0x11 5 0" ∷ codes "restart usb" ∷ [])
-    ≡ Some (Fail 1 (call_with 0x11 4 (0 ∷ 0 ∷ 0 ∷ []))) ∷ Some (Restart 2) ∷ Some (Restart 2) ∷ Some AdvanceFailed ∷ Some (Fail 1 (call_with 0x11 5 (0 ∷ []))) ∷ None ∷ []
-unfolding behind_spaces first_number item_at items_up_to number_of first_agent first_message payload_behind with_word advance_head agent_head command_head first_head head_of payload_of step_of_line with_step after_each_line lines_of lines_behind rows_of
+    ≡ Some (Fail 1 HardwareError (call_with 0x11 4 (0 ∷ 0 ∷ 0 ∷ []))) ∷ Some (Restart 2) ∷ Some (Restart 2) ∷ Some (AdvanceFailed HardwareError) ∷ Some (Fail 1 HardwareError (call_with 0x11 5 (0 ∷ []))) ∷ None ∷ []
+unfolding behind_spaces first_number item_at items_up_to number_of first_agent first_flag first_message first_named_fault payload_behind with_word advance_head agent_head command_head first_effect first_head first_refusal head_of payload_of report_head step_of_line with_step after_each_line lines_of lines_behind rows_of
 beside_hardware = refl
+
+-- steps beside hardware that refuses with a status
+refused_with : map meant (codes "refuse ap BUSY POWER_STATE_SET cpu on" ∷ codes "refuse modem DENIED CLOCK_CONFIG_SET pix off" ∷ codes "refuse 2 GENERIC_ERROR power POWER_STATE_SET async usb OFF" ∷ codes "refuse ap HARDWARE_ERROR CLOCK_RATE_SET bus 600MHz" ∷ codes "refuse 1 OUT_OF_RANGE 0x11 4 9" ∷ codes "advance refused BUSY" ∷ [])
+    ≡ Some (Fail 1 Busy (call_with 0x11 4 (0 ∷ 0 ∷ 0 ∷ []))) ∷ Some (Fail 2 Denied (call_with 0x14 7 (2 ∷ 0 ∷ []))) ∷ Some (Fail 2 GenericError (call_with 0x11 4 (1 ∷ 2 ∷ 0x40000000 ∷ []))) ∷ Some (Fail 1 HardwareError (call_with 0x14 5 (0 ∷ 1 ∷ 0x23c34600 ∷ 0 ∷ []))) ∷ Some (Fail 1 OutOfRange (call_with 0x11 4 (9 ∷ []))) ∷ Some (AdvanceFailed Busy) ∷ []
+unfolding behind_spaces first_number item_at items_up_to number_of first_agent first_flag first_message first_named_fault payload_behind with_word advance_head agent_head command_head first_effect first_head first_refusal head_of payload_of report_head step_of_line with_step after_each_line lines_of lines_behind rows_of
+refused_with = refl
+
+-- what hardware reports
+reported : map meant (codes "report state cpu off" ∷ codes "report state 2 ON" ∷ codes "report state usb 7" ∷ codes "report rate bus 1.5GHz" ∷ codes "report rate core 32768" ∷ codes "report rate 1 2 1" ∷ codes "report enabled pix on" ∷ codes "report enabled 1 Off" ∷ codes "report enabled core 1" ∷ [])
+    ≡ Some (Report (State 0 0x40000000)) ∷ Some (Report (State 2 0)) ∷ Some (Report (State 2 7)) ∷ Some (Report (Rate 1 1500000000)) ∷ Some (Report (Rate 0 32768)) ∷ Some (Report (Rate 1 4294967298)) ∷ Some (Report (Enabled 2 true)) ∷ Some (Report (Enabled 1 false)) ∷ Some (Report (Enabled 0 true)) ∷ []
+unfolding behind_spaces first_number item_at items_up_to number_of first_agent first_flag first_message first_named_fault payload_behind with_word advance_head agent_head command_head first_effect first_head first_refusal head_of payload_of report_head step_of_line with_step after_each_line lines_of lines_behind rows_of
+reported = refl
+
+-- a status that says nothing of hardware, in small letters, left out and before the agent, a clock as a domain, a domain as a clock, a number that is neither on nor off, an item too few and one too many, and an agent
+no_refusals_or_reports : map meant (codes "refuse ap NOT_FOUND POWER_STATE_SET cpu on" ∷ codes "refuse ap busy POWER_STATE_SET cpu on" ∷ codes "refuse ap POWER_STATE_SET cpu on" ∷ codes "refuse BUSY ap POWER_STATE_SET cpu on" ∷ codes "report state core on" ∷ codes "report rate cpu 600MHz" ∷ codes "report enabled pix 2" ∷ codes "report state cpu" ∷ codes "report rate bus 600 MHz" ∷ codes "report ap state cpu on" ∷ []) ≡ replicate 10 None
+unfolding behind_spaces first_number item_at items_up_to number_of first_agent first_flag first_message first_named_fault payload_behind with_word advance_head agent_head command_head first_effect first_head first_refusal head_of payload_of report_head step_of_line with_step after_each_line lines_of lines_behind rows_of
+no_refusals_or_reports = refl

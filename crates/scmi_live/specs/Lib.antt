@@ -5,6 +5,7 @@ pub mod Rates
 pub mod Flags
 pub mod Payload
 pub mod Forms
+pub mod Reports
 pub mod NamedStep
 pub mod Meant
 pub mod LiveError

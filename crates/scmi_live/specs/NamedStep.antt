@@ -1,9 +1,12 @@
 -- The steps that lines with names encode.
 use Rattle.std.specs.Prelude.{ℕ, ◌&&◌, nat_le, if◌then◌else◌, List, [], ◌∷◌, Option, Some, None}
 use Rattle.std.specs.Option.{option_map}
+use Rattle.std.specs.Str.{bytes_eq}
 use Rattle.scmi_board.specs.Items.{◌>>=◌}
 use Rattle.scmi_board.specs.Number.{number_of}
+use Rattle.scmi_codec.specs.declared.fault.Fault.TheVariants.{HardwareError}
 use Rattle.scmi_plan.specs.Board.{Board}
+use Rattle.scmi_text.specs.Fields.{fault_in, named_statuses}
 use Rattle.scmi_text.specs.PackedStep.{call_with, raw_with}
 use Rattle.scmi_text.specs.declared.step.Call.{Call}
 use Rattle.scmi_text.specs.declared.step.AgentStep.{AgentStep}
@@ -14,8 +17,10 @@ use Rattle.scmi_live.specs.Forms.{form_in, forms}
 use Rattle.scmi_live.specs.Messages.{id_of, message_named, protocol_of}
 use Rattle.scmi_live.specs.Names.{number_from, or_named}
 use Rattle.scmi_live.specs.Payload.{numbers, payload_meant}
+use Rattle.scmi_live.specs.Reports.{effect_of}
 use Rattle.scmi_live.specs.declared.form.Form.{Form}
 use Rattle.scmi_live.specs.declared.form.Form.TheVariants as form
+use Rattle.scmi_live.specs.declared.reports.TheConstants.{REPORT}
 
 -- the agent that an item encodes, on a board with this number of agents
 abbrev pub agent_of : Board → ℕ → List ℕ → Option ℕ
@@ -55,6 +60,11 @@ abbrev pub malformed_of : List (List ℕ) → Option AgentStep
 malformed_of (len ∷ header ∷ []) = number_of 32 len >>= λ size. option_map (λ word. agent.Malformed size word) (number_of 32 header)
 malformed_of items = None
 
+-- a status, and a command beside hardware that refuses each change with it
+abbrev pub refused_of : Board → ℕ → List (List ℕ) → Option Step
+refused_of board a [] = None
+refused_of board a (status ∷ items) = fault_in status named_statuses >>= λ fault. option_map (λ call. step.Fail a fault call) (call_of board items)
+
 -- nothing more
 abbrev pub alone : {A : Type 0} → A → List (List ℕ) → Option A
 alone value [] = Some value
@@ -64,7 +74,8 @@ alone value (item ∷ items) = None
 abbrev pub step_behind : Board → Form → ℕ → List (List ℕ) → Option Step
 step_behind board form.Do a items = option_map (λ call. step.Do a call) (call_of board items)
 step_behind board form.Call a items = option_map (λ call. step.Agent a (agent.Call call)) (call_of board items)
-step_behind board form.Fail a items = option_map (λ call. step.Fail a call) (call_of board items)
+step_behind board form.Fail a items = option_map (λ call. step.Fail a HardwareError call) (call_of board items)
+step_behind board form.Refuse a items = refused_of board a items
 step_behind board form.Raw a items = option_map (λ made. step.Agent a made) (raw_of items)
 step_behind board form.Malformed a items = option_map (λ made. step.Agent a made) (malformed_of items)
 step_behind board form.Collect a items = alone (step.Agent a agent.Collect) items
@@ -73,9 +84,21 @@ step_behind board form.Close a items = alone (step.Agent a agent.Close) items
 step_behind board (form.Platform call) a items = alone (step.Platform a call) items
 step_behind board form.Restart a items = alone (step.Restart a) items
 
--- the step of items of which the first is the form's word and the second the agent, on a board with this number of agents
+-- the step of a form's word, an agent, and the items after it, on a board with this number of agents
+abbrev pub step_of_agent : Board → ℕ → List ℕ → List ℕ → List (List ℕ) → Option Step
+step_of_agent board agents word who items =
+    form_in word forms >>= λ form. agent_of board agents who >>= λ a. step_behind board form a items
+
+-- the report of what has changed
+abbrev pub report_of : Board → List ℕ → List (List ℕ) → Option Step
+report_of board kind items = option_map (λ effect. step.Report effect) (effect_of board kind items)
+
+-- the step of two words and the items after them: a report if the first is that word, and else one of an agent, which is the second
+abbrev pub step_of_words : Board → ℕ → List ℕ → List ℕ → List (List ℕ) → Option Step
+step_of_words board agents word second items = if bytes_eq word REPORT.now then report_of board second items else step_of_agent board agents word second items
+
+-- the step of items, of which there are two at least, on a board with this number of agents
 abbrev pub named_step : Board → ℕ → List (List ℕ) → Option Step
 named_step board agents [] = None
 named_step board agents (word ∷ []) = None
-named_step board agents (word ∷ who ∷ items) =
-    form_in word forms >>= λ form. agent_of board agents who >>= λ a. step_behind board form a items
+named_step board agents (word ∷ second ∷ items) = step_of_words board agents word second items

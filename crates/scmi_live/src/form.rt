@@ -13,6 +13,8 @@ pub(crate) enum Form {
     Call,
     /// As `Do`, beside hardware that refuses each change.
     Fail,
+    /// A status, and what follows it as `Do`, beside hardware that refuses each change with it.
+    Refuse,
     /// A header word, and the payload as numbers.
     Raw,
     /// A length and a header word.
@@ -44,10 +46,11 @@ macro_rules! forms {
 }
 
 /// The first words of the lines of steps that are of an agent.
-pub(crate) const FORMS: [HeldForm; 12] = forms![
+pub(crate) const FORMS: [HeldForm; 13] = forms![
     b"do" Form::Do;
     b"call" Form::Call;
     b"fail" Form::Fail;
+    b"refuse" Form::Refuse;
     b"raw" Form::Raw;
     b"bad" Form::Malformed;
     b"collect" Form::Collect;

@@ -7,6 +7,7 @@
 //! listener's.
 #![tactic(auto)]
 
+mod faults;
 mod flags;
 mod form;
 mod hertz;
@@ -26,6 +27,7 @@ mod payload;
 mod pieces;
 mod plain_step;
 mod rate;
+mod reports;
 mod run;
 mod unknown;
 mod word;

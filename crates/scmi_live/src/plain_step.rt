@@ -1,6 +1,7 @@
 //! Steps as a script has them, in numbers.
 
-use scmi_codec::Payload;
+use scmi_codec::{Fault, Payload, rate_words};
+use scmi_plan::Effect;
 use scmi_text::{AgentStep, Call, PlatformStep, Step};
 use std::fmt;
 
@@ -18,8 +19,9 @@ impl fmt::Display for PlainStep<'_> {
             }
             Step::Do { agent, call } => write_call(f, "do", *agent, call),
             Step::Advance => f.write_str("advance"),
-            Step::Fail { agent, call } => write_call(f, "fail", *agent, call),
-            Step::AdvanceFailed => f.write_str("advance failed"),
+            Step::Fail { agent, fault, call } => write_refused(f, *agent, *fault, call),
+            Step::AdvanceFailed { fault } => write_advance_refused(f, *fault),
+            Step::Report { effect } => write_report(f, *effect),
             Step::Restart { agent } => write!(f, "restart {agent}"),
         }
     }
@@ -60,10 +62,59 @@ fn write_call<W: fmt::Write>(
     agent: u32,
     call: &Call,
 ) -> fmt::Result {
+    write!(f, "{word} {agent} ")?;
+    write_command(f, call)
+}
+
+fn write_command<W: fmt::Write>(f: &mut fmt::Formatter<W>, call: &Call) -> fmt::Result {
     let protocol = call.protocol;
     let message = call.message;
-    write!(f, "{word} {agent} 0x{protocol:x} 0x{message:x}")?;
+    write!(f, "0x{protocol:x} 0x{message:x}")?;
     write_words(f, &call.payload)
+}
+
+/// A command beside hardware that refuses: HARDWARE_ERROR is the status of `fail`.
+fn write_refused<W: fmt::Write>(
+    f: &mut fmt::Formatter<W>,
+    agent: u32,
+    fault: Fault,
+    call: &Call,
+) -> fmt::Result {
+    match fault {
+        Fault::HardwareError => write_call(f, "fail", agent, call),
+        _ => {
+            let status = fault.status();
+            let name = status.name();
+            write!(f, "refuse {agent} {name} ")?;
+            write_command(f, call)
+        }
+    }
+}
+
+fn write_advance_refused<W: fmt::Write>(f: &mut fmt::Formatter<W>, fault: Fault) -> fmt::Result {
+    match fault {
+        Fault::HardwareError => f.write_str("advance failed"),
+        _ => {
+            let status = fault.status();
+            let name = status.name();
+            write!(f, "advance refused {name}")
+        }
+    }
+}
+
+fn write_report<W: fmt::Write>(f: &mut fmt::Formatter<W>, effect: Effect) -> fmt::Result {
+    match effect {
+        Effect::State { domain, state } => write!(f, "report state {domain} 0x{state:x}"),
+        Effect::Rate { clock, rate } => {
+            let words = rate_words(rate);
+            let (low, high) = (words[0], words[1]);
+            write!(f, "report rate {clock} 0x{low:x} 0x{high:x}")
+        }
+        Effect::Enabled { clock, enabled } => {
+            let on = u32::from(enabled);
+            write!(f, "report enabled {clock} {on}")
+        }
+    }
 }
 
 fn write_words<W: fmt::Write>(f: &mut fmt::Formatter<W>, payload: &Payload) -> fmt::Result {

@@ -5,10 +5,12 @@ use crate::items::items_of;
 use crate::messages::{id_in, id_of, message_named, protocol_of};
 use crate::named_step::agent_of;
 use crate::rate::zeros_of;
+use crate::reports::{ENABLED, RATE, REPORT, STATE};
 use crate::word::{is_flags, words_of_item};
 use scmi_board::word;
 use scmi_codec::{
-    BASE_MESSAGES, CLOCK_MESSAGES, HeldRow, POWER_MESSAGES, Part, listed_row, rows_of,
+    BASE_MESSAGES, CLOCK_MESSAGES, CLOCK_PROTOCOL, HeldRow, POWER_MESSAGES, POWER_PROTOCOL, Part,
+    listed_row, rows_of,
 };
 use scmi_describe::protocol_name;
 use scmi_plan::RawPlan;
@@ -51,6 +53,7 @@ pub fn unknown_in<'a>(
     }
     let items = items_of(alloc, text).ok()?;
     match items.as_slice() {
+        [first, kind, rest @ ..] if *first == REPORT => unknown_report(board, *kind, rest),
         [first, who, rest @ ..] => {
             let form = form_in(&FORMS, *first)?;
             if word(*who).is_some() && rest.iter().all(|item| word(*item).is_some()) {
@@ -60,7 +63,11 @@ pub fn unknown_in<'a>(
                 return Some(Unknown::Agent(*who));
             }
             match form {
-                Form::Do | Form::Call | Form::Fail => unknown_command(board, rest),
+                Form::Do | Form::Call | Form::Fail => unknown_command(board, 3, rest),
+                Form::Refuse => match rest {
+                    [_, command @ ..] => unknown_command(board, 4, command),
+                    [] => None,
+                },
                 _ => None,
             }
         }
@@ -68,16 +75,47 @@ pub fn unknown_in<'a>(
     }
 }
 
-/// Why items encode no command.
-fn unknown_command<'a>(board: &RawPlan, items: &[&'a [u8]]) -> Option<Unknown<'a>> {
+/// Why the items of a report encode no change.
+fn unknown_report<'a>(board: &RawPlan, kind: &[u8], items: &[&'a [u8]]) -> Option<Unknown<'a>> {
+    let (protocol, parts) = parts_of(kind)?;
+    if let Some(unit) = unit_alone(&parts, 3, items) {
+        return Some(unit);
+    }
+    let mut number: usize = 3;
+    for (item, part) in items.iter().zip(parts.iter()) {
+        if words_of_item(board, protocol, *part, *item).is_none() {
+            return Some(Unknown::Part(number, *item, *part));
+        }
+        number = number.saturating_add(1);
+    }
+    None
+}
+
+/// What a report has after the word of what has changed, and the protocol of its messages.
+fn parts_of(kind: &[u8]) -> Option<(u8, [Part; 2])> {
+    if kind == STATE {
+        return Some((POWER_PROTOCOL, [Part::Domain, Part::State]));
+    }
+    if kind == RATE {
+        return Some((CLOCK_PROTOCOL, [Part::Clock, Part::Rate]));
+    }
+    if kind == ENABLED {
+        return Some((CLOCK_PROTOCOL, [Part::Clock, Part::Enable]));
+    }
+    None
+}
+
+/// Why items, of which the first has this number in the line, encode no command.
+fn unknown_command<'a>(board: &RawPlan, number: usize, items: &[&'a [u8]]) -> Option<Unknown<'a>> {
+    let next = number.saturating_add(1);
     match items {
         [first, rest @ ..] => match (protocol_of(*first), rest) {
             (Some(protocol), [message, behind @ ..]) => match id_of(protocol, *message) {
-                Some(id) => unknown_payload(board, protocol, id, 5, behind),
+                Some(id) => unknown_payload(board, protocol, id, next.saturating_add(1), behind),
                 None => Some(unknown_message(*first, protocol, *message)),
             },
             (Some(_), []) => None,
-            (None, _) => unknown_name(board, *first, rest),
+            (None, _) => unknown_name(board, *first, next, rest),
         },
         [] => None,
     }
@@ -94,10 +132,15 @@ fn unknown_message<'a>(asked: &'a [u8], protocol: u8, message: &'a [u8]) -> Unkn
     }
 }
 
-/// The same if the first item is to be the name of a message.
-fn unknown_name<'a>(board: &RawPlan, name: &'a [u8], items: &[&'a [u8]]) -> Option<Unknown<'a>> {
+/// The same if the item before these is to be the name of a message.
+fn unknown_name<'a>(
+    board: &RawPlan,
+    name: &'a [u8],
+    number: usize,
+    items: &[&'a [u8]],
+) -> Option<Unknown<'a>> {
     if let Some((protocol, id)) = message_named(name) {
-        return unknown_payload(board, protocol, id, 4, items);
+        return unknown_payload(board, protocol, id, number, items);
     }
     if is_in(&BASE_MESSAGES, name) || is_in(&POWER_MESSAGES, name) || is_in(&CLOCK_MESSAGES, name) {
         return Some(Unknown::Shared(name));

@@ -1,5 +1,5 @@
 -- The tests of a board's rules decide what a valid board is.
-use Rattle.std.proofs.Common.{◌≡◌, ◌⊎◌, inl, inr, ◌↔◌, ℕ, zero, suc, ◌+◌, ◌-◌, ◌*◌, ◌/◌, ◌%◌, ◌^◌, ◌<◌, ◌≤◌, ◌==◌, nat_le, nat_lt, Bool, true, false, not, ◌&&◌, if◌then◌else◌, List, [], ◌∷◌, length, map, get_or, replicate, Some, None, refl, sym, ap, subst, ◌∙◌, arith, Decides, Contains, mod-lt, string_bytes}
+use Rattle.std.proofs.Common.{◌≡◌, ◌⊎◌, inl, inr, ◌↔◌, ℕ, zero, suc, ◌+◌, ◌-◌, ◌*◌, ◌/◌, ◌%◌, ◌^◌, ◌<◌, ◌≤◌, ◌==◌, nat_le, nat_lt, Bool, true, false, not, ◌&&◌, if◌then◌else◌, List, [], ◌∷◌, length, map, get_or, replicate, Option, Some, None, refl, sym, ap, subst, ◌∙◌, arith, Decides, Contains, mod-lt, string_bytes}
 use Rattle.std.specs.List.{All, list_all, list_any, range_with_len, IsAllAdjacentAnswer}
 use Rattle.std.specs.List.Sorted.{IsStrictlyIncreasing}
 use Rattle.std.proofs.lemmas.Bool.Decides.{leb_tells, Decides-eqb, Decides-ltb, Decides-and, Decides-like, Decides-by_and, Decides-by_or}
@@ -11,15 +11,18 @@ use Rattle.std.proofs.Math.Nat.{mul-mod_left, zero-mul, le-div_iff_mul-le}
 use Rattle.scmi_codec.specs.Name.{IsName}
 use Rattle.scmi_codec.specs.declared.name.TheConstants.{NAME_BYTES}
 use Rattle.scmi_plan.specs.Board.{Board, IsChannel, whole_channel}
+use Rattle.scmi_plan.specs.BoardRows.{AreRows, HasNames, board_of_rows}
 use Rattle.scmi_plan.specs.Plan.{IsValid}
 use Rattle.scmi_plan.specs.Rates.{SupportedRates, HasValidRates, IsSupported}
 use Rattle.scmi_plan.specs.PlanError.{is_name, rises, is_valid_list, is_valid, supports, has_valid_counts, has_valid_names, has_valid_clocks, has_valid_devices, has_trusted_agent, first_fault}
 use Rattle.scmi_plan.specs.RawPlan.{asked_board, asked_domain, asked_clock}
 use Rattle.scmi_plan.specs.declared.limits.TheConstants.{AGENTS, DOMAINS, CLOCKS, DEVICES, RATES}
+use Rattle.scmi_plan.specs.declared.board_rows.BoardRows.TheInside.{Inside}
 use Rattle.scmi_plan.specs.declared.raw_plan.RawPlan.{RawPlan}
 use Rattle.scmi_plan.specs.declared.clock.Clock.{Clock}
 use Rattle.scmi_plan.specs.declared.device.Device.{Device}
 use Rattle.scmi_plan.specs.Rates as rates
+use Rattle.scmi_plan.specs.declared.plan_error.PlanError.{PlanError}
 use Rattle.scmi_plan.specs.declared.plan_error.PlanError.TheVariants as error
 
 pub Decides-leb : (a b : ℕ) → Decides (nat_le a b) (a ≤ b)
@@ -137,7 +140,7 @@ pub Decides-below_next : (r : Bool) (xs : List ℕ) → IsAllAdjacentAnswer (λ 
 Decides-below_next true xs below = (λ _ k h. (Decides-ltb (get_or xs k 0) (get_or xs (k + 1) 0)).0 (sym (below k 0 h)), λ _. refl)
 Decides-below_next false xs falls = (λ e. cc, λ up. falls.2 0 ∙ (Decides-ltb (get_or xs falls.0 0) (get_or xs (falls.0 + 1) 0)).1 (up falls.0 falls.1))
 
-module _ (board : Board) (each : length board.channels ≡ AGENTS) (channels : All IsChannel board.channels) where
+module _ (board : Board) where
   abbrev IsWithin : Device → Type 0
   IsWithin device = (device.domains < 2 ^ length board.domains) × (device.clocks < 2 ^ length board.clocks)
 
@@ -169,8 +172,9 @@ module _ (board : Board) (each : length board.channels ≡ AGENTS) (channels : A
   Decides-trusted = Decides-and _ _ (Decides-leb 1 board.trusted) (Decides-leb board.trusted (length board.agents))
 
   -- the five tests together are the law of a board
-  Decides-tests : Decides (has_valid_counts board && has_valid_names board && has_valid_clocks board && has_valid_devices board && has_trusted_agent board) (IsValid board)
-  Decides-tests =
+  Decides-tests : length board.channels ≡ AGENTS → All IsChannel board.channels
+      → Decides (has_valid_counts board && has_valid_names board && has_valid_clocks board && has_valid_devices board && has_trusted_agent board) (IsValid board)
+  Decides-tests each channels =
       Decides-like _
       (λ w. let counts = w.0.0.0.0 in let names = w.0.0.0.1 in let clocks = w.0.0.1 in let devices = w.0.1 in
       record {
@@ -211,9 +215,13 @@ module _ (board : Board) (each : length board.channels ≡ AGENTS) (channels : A
       ))
       (Decides-and _ _ (Decides-and _ _ (Decides-and _ _ (Decides-and _ _ Decides-counts Decides-names) Decides-clocks) Decides-devices) Decides-trusted)
 
+-- the rule of the first test that fails
+abbrev first : (a b c d e : Bool) → Option PlanError
+first a b c d e =
+    if not a then Some error.Count else if not b then Some error.Name else if not c then Some error.Rates else if not d then Some error.Device else if not e then Some error.Trusted else None
+
 -- no rule is broken if and only if each test passes
-Decides-none : (a b c d e : Bool)
-    → (if not a then Some error.Count else if not b then Some error.Name else if not c then Some error.Rates else if not d then Some error.Device else if not e then Some error.Trusted else None) ≡ None
+Decides-none : (a b c d e : Bool) → first a b c d e ≡ None
     ↔ (a && b && c && d && e) ≡ true
 Decides-none true true true true true = (λ _. refl, λ _. refl)
 Decides-none false b c d e = (λ h. cc, λ h. cc)
@@ -237,6 +245,78 @@ whole_channels = All-replicate IsChannel AGENTS whole_channel (omega arith, omeg
 pub valid : (raw : RawPlan) → (first_fault (asked_board raw) ≡ None) ↔ IsValid (asked_board raw)
 valid raw = valid_but (asked_board raw) refl whole_channels
 
+-- rows break no rule if and only if their board is valid
+pub valid_rows : (rows : Inside) → (first_fault (board_of_rows rows) ≡ None) ↔ IsValid (board_of_rows rows)
+valid_rows rows = valid_but (board_of_rows rows) refl whole_channels
+
+-- a board with valid names passes their test
+pub names_pass : (board : Board) → HasNames board → has_valid_names board ≡ true
+names_pass board names = (Decides-names board).1 ((((names.vendor, names.sub_vendor), names.agents), names.domains), names.clocks)
+
+fails : (b : Bool) → ¬ (b ≡ true) → b ≡ false
+fails true h = absurd (h refl)
+fails false h = refl
+
+first_name : (a b c d e : Bool) → a ≡ true → b ≡ false → first a b c d e ≡ Some error.Name
+first_name a b c d e pa pb = rw (pa, pb) refl
+
+first_rates : (a b c d e : Bool) → a ≡ true → b ≡ true → c ≡ false → first a b c d e ≡ Some error.Rates
+first_rates a b c d e pa pb pc = rw (pa, pb, pc) refl
+
+first_device : (a b c d e : Bool) → a ≡ true → b ≡ true → c ≡ true → d ≡ false → first a b c d e ≡ Some error.Device
+first_device a b c d e pa pb pc pd = rw (pa, pb, pc, pd) refl
+
+first_trusted : (a b c d e : Bool) → a ≡ true → b ≡ true → c ≡ true → d ≡ true → e ≡ false → first a b c d e ≡ Some error.Trusted
+first_trusted a b c d e pa pb pc pd pe = rw (pa, pb, pc, pd, pe) refl
+
+first_none : (a b c d e : Bool) → a ≡ true → b ≡ true → c ≡ true → d ≡ true → e ≡ true → first a b c d e ≡ None
+first_none a b c d e pa pb pc pd pe = rw (pa, pb, pc, pd, pe) refl
+
+-- a board of valid counts whose names are not valid breaks the rule of names
+pub name_fault : (board : Board) → has_valid_counts board ≡ true → ¬ (HasNames board) → first_fault board ≡ Some error.Name
+name_fault board counts none =
+    first_name (has_valid_counts board) (has_valid_names board) (has_valid_clocks board) (has_valid_devices board) (has_trusted_agent board) counts
+    (fails (has_valid_names board) (λ pass.
+    let names = (Decides-names board).0 pass in
+    none (record { vendor = names.0.0.0.0; sub_vendor = names.0.0.0.1; agents = names.0.0.1; domains = names.0.1; clocks = names.1 })))
+
+-- the first rule that the board of rows breaks
+module _ (rows : Inside) (are : AreRows rows) where
+  abbrev board : Board
+  board = board_of_rows rows
+
+  names : has_valid_names board ≡ true
+  names = names_pass board are.1
+
+  pub rates_fault : has_valid_clocks board ≡ false → first_fault board ≡ Some error.Rates
+  rates_fault clocks =
+      first_rates (has_valid_counts board) (has_valid_names board) (has_valid_clocks board) (has_valid_devices board) (has_trusted_agent board) are.0 names clocks
+
+  pub device_fault : has_valid_clocks board ≡ true → has_valid_devices board ≡ false → first_fault board ≡ Some error.Device
+  device_fault clocks devices =
+      first_device (has_valid_counts board) (has_valid_names board) (has_valid_clocks board) (has_valid_devices board) (has_trusted_agent board) are.0 names clocks devices
+
+  pub trusted_fault : has_valid_clocks board ≡ true → has_valid_devices board ≡ true → has_trusted_agent board ≡ false → first_fault board ≡ Some error.Trusted
+  trusted_fault clocks devices trusted =
+      first_trusted (has_valid_counts board) (has_valid_names board) (has_valid_clocks board) (has_valid_devices board) (has_trusted_agent board) are.0 names clocks devices trusted
+
+  pub no_fault : has_valid_clocks board ≡ true → has_valid_devices board ≡ true → has_trusted_agent board ≡ true → first_fault board ≡ None
+  no_fault clocks devices trusted =
+      first_none (has_valid_counts board) (has_valid_names board) (has_valid_clocks board) (has_valid_devices board) (has_trusted_agent board) are.0 names clocks devices trusted
+
+-- a valid board has valid counts, and valid names
+pub counts_of_valid : (board : Board) → IsValid board → has_valid_counts board ≡ true
+counts_of_valid board law = (Decides-counts board).1 ((((law.an_agent, law.few_agents), law.few_domains), law.few_clocks), law.few_devices)
+
+pub names_of_valid : (board : Board) → IsValid board → HasNames board
+names_of_valid board law = record {
+  vendor = law.vendor;
+  sub_vendor = law.sub_vendor;
+  agents = law.agent_names;
+  domains = All-from_get_or (λ domain. IsName domain.name) board.domains _ law.domain_names;
+  clocks = All-from_get_or (λ clock. IsName clock.name) board.clocks _ law.clock_names;
+}
+
 -- a set has only members below a count where nothing is left above it
 pub Decides-below : (set p : ℕ) → 0 < p → Decides (set / p == 0) (set < p)
 Decides-below set p some = Decides-like (set / p == 0) to from (Decides-eqb (set / p) 0) where
@@ -253,7 +333,8 @@ Decides-below set p some = Decides-like (set / p == 0) to from (Decides-eqb (set
     pick (inl t) = let over : 1 * p ≤ set = (le-div_iff_mul-le some).0 t.1 in absurd (omega arith)
     pick (inr t) = let none = t.1 in omega arith
 
-All-of_map : {X Y : Type 0} (P : Y → Type 0) (f : X → Y) (xs : List X) → All P (map f xs) → All (λ x. P (f x)) xs
+-- what holds of what a list's members give
+pub All-of_map : {X Y : Type 0} (P : Y → Type 0) (f : X → Y) (xs : List X) → All P (map f xs) → All (λ x. P (f x)) xs
 All-of_map P f xs all k d small = subst P (get_or-map f xs k d (f d) small) (all k (f d) (subst (λ n. k < n) (sym (length-map xs f)) small))
 
 -- the names of a valid board's agents, domains and clocks as they were written down

@@ -31,6 +31,10 @@ pub record Board : Type 0 where
   pub kept : Device
   -- what is denied to each agent from the start
   pub denied : Denied
+  -- what has a number and is not there
+  pub absent : Device
+  -- which clocks take each rate as it is asked for: bit c is for clock c
+  pub free : ℕ
 
 -- the channels of an agent of whom nothing else is said: 64 words of payload, both ways, and all
 -- pending sets may be the agent's (own)
@@ -106,6 +110,22 @@ is_kept board r = holds board.kept r
 -- the same board, and no agent may switch this domain or clock off
 abbrev pub with_kept : Board → Resource → Board
 with_kept board r = record board { kept = held_also board.kept r }
+
+-- whether a domain or clock of the board has a number and is not there (own)
+abbrev pub is_absent : Board → Resource → Bool
+is_absent board r = holds board.absent r
+
+-- the same board, and this domain or clock is not there
+abbrev pub with_absent : Board → Resource → Board
+with_absent board r = record board { absent = held_also board.absent r }
+
+-- whether a clock takes each rate as it is asked for, and rounds none (own)
+abbrev pub is_free : Board → ℕ → Bool
+is_free board c = bit_at board.free c == 1
+
+-- the same board, and this clock takes each rate as it is asked for
+abbrev pub with_free : Board → ℕ → Board
+with_free board c = record board { free = mask_with board.free c }
 
 -- no device is denied to any agent
 abbrev pub nothing_denied : Denied

@@ -4,4 +4,5 @@ pub mod Agent
 pub mod Board
 pub mod RawPlan
 pub mod PlanError
+pub mod BoardRows
 pub mod Plan

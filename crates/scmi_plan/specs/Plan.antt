@@ -25,6 +25,8 @@ board_of p =
       channels = p.channels;
       kept = p.kept;
       denied = p.denied;
+      absent = p.absent;
+      free = p.free;
     }
 
 -- a board that keeps the limits and rules of the profile (own)

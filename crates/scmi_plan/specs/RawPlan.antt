@@ -24,7 +24,7 @@ asked_domain raw =
 abbrev pub asked_clock : RawClock → Clock
 asked_clock raw = record { name = string_bytes raw.name; enabled = raw.enabled; rate = raw.rate; rates = rates_of raw.rates }
 
--- the board with its names as bytes: channels are whole, nothing is kept, and nothing denied
+-- the board with its names as bytes: channels are whole, nothing is kept or denied, all is there, and no clock is free
 abbrev pub asked_board : RawPlan → Board
 asked_board raw =
     record {
@@ -39,4 +39,6 @@ asked_board raw =
       channels = replicate AGENTS whole_channel;
       kept = nothing_held;
       denied = nothing_denied;
+      absent = nothing_held;
+      free = 0;
     }

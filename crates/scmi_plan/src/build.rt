@@ -4,17 +4,37 @@
 //! in an image for firmware.
 ghost use Rattle.std.specs.Prelude.{◌≡◌, ◌∷◌, ◌++◌, [], map, IfOk, OnOk, All, string_bytes};
 ghost use Rattle.scmi_codec.specs.Name.{IsName};
-ghost use Rattle.scmi_plan.specs.RawPlan.{asked_domain, asked_clock};
+ghost use Rattle.scmi_plan.specs.Plan.{IsValid};
+ghost use Rattle.scmi_plan.specs.RawPlan.{asked_board, asked_domain, asked_clock};
 
+use crate::board_rows::BoardRows;
 use crate::clock::Clock;
 use crate::device::Device;
 use crate::domain::Domain;
-use crate::raw_plan::{RawClock, RawDomain};
+use crate::raw_plan::{RawClock, RawDomain, RawPlan};
 use scmi_codec::Name;
 use std::alloc::{AllocError, Global};
 
+/// The rows of a board that was written down.
+pub(crate) fn build_rows(alloc: Global, raw: &RawPlan) -> Result<BoardRows, AllocError>
+    requires { IsValid (asked_board raw.now) }
+    ensures { IfOk result (λ rows. rows ≡ asked_board raw.now) }
+{
+    Ok(BoardRows {
+        vendor: build_name(&raw.vendor),
+        sub_vendor: build_name(&raw.sub_vendor),
+        version: raw.version,
+        trusted: raw.trusted,
+        agents: build_agents(alloc, &raw.agents)?,
+        domains: build_domains(alloc, &raw.domains)?,
+        devices: build_devices(alloc, &raw.devices)?,
+        // Last of those that take memory: no error drops the clocks and their rates.
+        clocks: build_clocks(alloc, &raw.clocks)?,
+    })
+}
+
 #[inline(never)]
-pub(crate) fn build_name(text: &str) -> Name
+fn build_name(text: &str) -> Name
     requires { IsName text.now }
     ensures { result ≡ text.now }
 {
@@ -22,7 +42,7 @@ pub(crate) fn build_name(text: &str) -> Name
 }
 
 #[inline(never)]
-pub(crate) fn build_agents(alloc: Global, raw: &[String]) -> Result<Vec<Name>, AllocError>
+fn build_agents(alloc: Global, raw: &[String]) -> Result<Vec<Name>, AllocError>
     requires { All (λ agent. IsName (string_bytes agent)) raw.now }
     ensures { IfOk result (λ agents. agents.items ≡ map string_bytes raw.now) }
 {
@@ -34,7 +54,7 @@ pub(crate) fn build_agents(alloc: Global, raw: &[String]) -> Result<Vec<Name>, A
 }
 
 #[inline(never)]
-pub(crate) fn build_domains(alloc: Global, raw: &[RawDomain]) -> Result<Vec<Domain>, AllocError>
+fn build_domains(alloc: Global, raw: &[RawDomain]) -> Result<Vec<Domain>, AllocError>
     requires { All (λ domain. IsName (string_bytes domain.name)) raw.now }
     ensures { IfOk result (λ domains. domains.items ≡ map asked_domain raw.now) }
 {
@@ -59,7 +79,7 @@ fn build_domain(raw: &RawDomain) -> Domain
 }
 
 #[inline(never)]
-pub(crate) fn build_clocks(alloc: Global, raw: &[RawClock]) -> Result<Vec<Clock>, AllocError>
+fn build_clocks(alloc: Global, raw: &[RawClock]) -> Result<Vec<Clock>, AllocError>
     requires { All (λ clock. IsName (string_bytes clock.name)) raw.now }
     ensures { IfOk result (λ clocks. clocks.items ≡ map asked_clock raw.now) }
 {
@@ -93,7 +113,7 @@ fn build_clock(raw: &RawClock) -> Result<Clock, AllocError>
 }
 
 #[inline(never)]
-pub(crate) fn build_devices(alloc: Global, raw: &[Device]) -> Result<Vec<Device>, AllocError>
+fn build_devices(alloc: Global, raw: &[Device]) -> Result<Vec<Device>, AllocError>
     ensures { IfOk result (λ devices. devices.items ≡ raw.now) }
 {
     Vec::from_slice(alloc, raw)

@@ -1,7 +1,8 @@
 //! A device of a board.
 ghost use Rattle.std.specs.Prelude.{◌≡◌};
-ghost use Rattle.scmi_plan.specs.Board.{IsPossible, holds};
+ghost use Rattle.scmi_plan.specs.Board.{IsPossible, held_also, holds, nothing_held};
 
+use crate::mask::with_bit;
 use crate::resource::Resource;
 
 /// A set of domains and clocks, bit i for domain or clock i.
@@ -12,6 +13,27 @@ pub struct Device {
 }
 
 impl Device {
+    /// None.
+    pub(crate) fn nothing() -> Device
+        ensures { result ≡ nothing_held }
+    {
+        Device {
+            domains: 0,
+            clocks: 0,
+        }
+    }
+
+    /// Holds one domain or clock more.
+    pub(crate) fn add(&mut self, resource: Resource)
+        requires { IsPossible resource }
+        ensures { self.new ≡ held_also self.old resource }
+    {
+        match resource {
+            Resource::Domain(domain) => self.domains = with_bit(self.domains, domain),
+            Resource::Clock(clock) => self.clocks = with_bit(self.clocks, clock),
+        }
+    }
+
     /// Whether it holds a domain or clock.
     pub(crate) fn holds(&self, resource: Resource) -> bool
         requires { IsPossible resource }

@@ -1,11 +1,14 @@
 //! The rules that a board has to keep, in the order of their numbers. None takes memory.
-ghost use Rattle.std.specs.Prelude.{◌≡◌, ◌≢◌, ◌^◌, nat_lt, IfSome, true, map, string_bytes};
+ghost use Rattle.std.specs.Prelude.{◌≡◌, ◌≢◌, ◌^◌, ◌&&◌, nat_le, nat_lt, IfSome, length, true, map, string_bytes};
 ghost use Rattle.std.specs.List.{list_all};
+ghost use Rattle.scmi_plan.specs.Board.{Board};
 ghost use Rattle.scmi_plan.specs.Rates.{rates_of};
 ghost use Rattle.scmi_plan.specs.RawPlan.{asked_board, asked_domain, asked_clock};
-ghost use Rattle.scmi_plan.specs.PlanError.{first_fault, has_valid_counts, has_valid_names, has_valid_clocks, has_valid_devices, has_trusted_agent, is_name, is_valid, is_valid_list, supports, rises};
+ghost use Rattle.scmi_plan.specs.PlanError.{first_fault, has_valid_counts, has_valid_names, has_valid_clocks, is_name, is_valid, is_valid_list, supports, rises};
 ghost use Rattle.scmi_plan.specs.declared.plan_error.PlanError.TheVariants.{Memory};
 
+use crate::clock::Clock;
+use crate::device::Device;
 use crate::limits::{AGENTS, CLOCKS, DEVICES, DOMAINS, RATES};
 use crate::plan_error::PlanError;
 use crate::rates::Rates;
@@ -24,9 +27,9 @@ pub(crate) fn first_fault(raw: &RawPlan) -> Option<PlanError>
         Some(PlanError::Name)
     } else if !has_valid_clocks(raw) {
         Some(PlanError::Rates)
-    } else if !has_valid_devices(raw) {
+    } else if !are_valid_devices(&raw.devices, raw.domains.len(), raw.clocks.len()) {
         Some(PlanError::Device)
-    } else if !has_trusted_agent(raw) {
+    } else if !is_trusted_agent(raw.trusted, raw.agents.len()) {
         Some(PlanError::Trusted)
     } else {
         None
@@ -36,12 +39,21 @@ pub(crate) fn first_fault(raw: &RawPlan) -> Option<PlanError>
 fn has_valid_counts(raw: &RawPlan) -> bool
     ensures { result ≡ has_valid_counts (asked_board raw.now) }
 {
-    let agents = raw.agents.len();
-    1 <= agents
-        && agents <= AGENTS
-        && raw.domains.len() <= DOMAINS
-        && raw.clocks.len() <= CLOCKS
-        && raw.devices.len() <= DEVICES
+    are_valid_counts(
+        raw.agents.len(),
+        raw.domains.len(),
+        raw.clocks.len(),
+        raw.devices.len(),
+    )
+}
+
+/// Whether a board may have so many agents, domains, clocks and devices.
+pub fn are_valid_counts(agents: usize, domains: usize, clocks: usize, devices: usize) -> bool
+    ensures { (board : Board) → length board.agents ≡ agents → length board.domains ≡ domains
+        → length board.clocks ≡ clocks → length board.devices ≡ devices
+        → result ≡ has_valid_counts board }
+{
+    1 <= agents && agents <= AGENTS && domains <= DOMAINS && clocks <= CLOCKS && devices <= DEVICES
 }
 
 fn has_valid_names(raw: &RawPlan) -> bool
@@ -83,7 +95,26 @@ fn is_name(text: &str) -> bool
 fn has_valid_clocks(raw: &RawPlan) -> bool
     ensures { result ≡ has_valid_clocks (asked_board raw.now) }
 {
-    raw.clocks.iter().all(|clock| is_valid(&clock.rates) && supports(&clock.rates, clock.rate))
+    raw.clocks
+        .iter()
+        .all(|clock| starts_at_a_rate(&clock.rates, clock.rate))
+}
+
+/// Whether each clock has valid rates, and starts at one of them.
+pub(crate) fn are_valid_clocks(clocks: &[Clock]) -> bool
+    ensures { result ≡ list_all (λ clock. is_valid clock.rates && supports clock.rates clock.rate)
+        clocks.now }
+{
+    clocks
+        .iter()
+        .all(|clock| starts_at_a_rate(&clock.rates, clock.rate))
+}
+
+/// Whether rates are valid, and this is one of them.
+fn starts_at_a_rate(rates: &Rates, rate: u64) -> bool
+    ensures { result ≡ (is_valid (rates_of rates.now) && supports (rates_of rates.now) rate) }
+{
+    is_valid(rates) && supports(rates, rate)
 }
 
 fn is_valid(rates: &Rates) -> bool
@@ -121,12 +152,12 @@ fn supports(rates: &Rates, rate: u64) -> bool
     }
 }
 
-fn has_valid_devices(raw: &RawPlan) -> bool
-    ensures { result ≡ has_valid_devices (asked_board raw.now) }
+/// Whether each device holds only domains and clocks of which there are so many.
+pub(crate) fn are_valid_devices(devices: &[Device], domains: usize, clocks: usize) -> bool
+    ensures { result ≡ list_all (λ device. nat_lt device.domains (2 ^ domains)
+        && nat_lt device.clocks (2 ^ clocks)) devices.now }
 {
-    let domains = raw.domains.len();
-    let clocks = raw.clocks.len();
-    raw.devices.iter().all(|device| is_within(device.domains, domains)
+    devices.iter().all(|device| is_within(device.domains, domains)
         && is_within(device.clocks, clocks))
 }
 
@@ -137,8 +168,9 @@ pub(crate) fn is_within(set: u32, count: usize) -> bool
     count >= 32 || set >> count == 0
 }
 
-fn has_trusted_agent(raw: &RawPlan) -> bool
-    ensures { result ≡ has_trusted_agent (asked_board raw.now) }
+/// Whether an agent is one of so many.
+pub(crate) fn is_trusted_agent(trusted: u32, agents: usize) -> bool
+    ensures { result ≡ (nat_le 1 trusted && nat_le trusted agents) }
 {
-    1 <= raw.trusted && raw.trusted as usize <= raw.agents.len()
+    1 <= trusted && trusted as usize <= agents
 }

@@ -6,12 +6,14 @@
 #![tactic(auto)]
 
 mod agent_channel;
+mod board_rows;
 mod build;
 mod channel_error;
 mod clock;
 mod denied;
 mod device;
 mod domain;
+mod effect;
 mod fault;
 mod holders;
 mod limits;
@@ -26,11 +28,14 @@ mod resource;
 mod scope;
 
 pub use agent_channel::{AgentChannel, LEAST_CHANNEL_WORDS, WHOLE_CHANNEL};
+pub use board_rows::BoardRows;
 pub use channel_error::ChannelError;
 pub use clock::Clock;
 pub use denied::Denied;
 pub use device::Device;
 pub use domain::Domain;
+pub use effect::Effect;
+pub use fault::are_valid_counts;
 pub use limits::{AGENTS, CLOCKS, DEVICES, DOMAINS, PENDING_SETS, RATES};
 pub use load::Load;
 pub use mask::{MASK_BITS, with_bit, without_bit};

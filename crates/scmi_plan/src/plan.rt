@@ -4,7 +4,7 @@ ghost use Rattle.scmi_codec.specs.declared.payload.TheConstants.{PAYLOAD_WORDS};
 ghost use Rattle.scmi_plan.specs.Agent.{IsAgent, IsNoAgent};
 ghost use Rattle.scmi_plan.specs.declared.agent_channel.TheConstants.{LEAST_CHANNEL_WORDS};
 ghost use Rattle.scmi_plan.specs.declared.limits.TheConstants.{PENDING_SETS};
-ghost use Rattle.scmi_plan.specs.Board.{AreHolders, IsChannel, channel_of, with_channel, holds, is_kept, IsOnBoard, domain_at, clock_at, device_at, with_denied, with_kept};
+ghost use Rattle.scmi_plan.specs.Board.{AreHolders, IsChannel, channel_of, with_channel, holds, is_absent, is_free, is_kept, IsOnBoard, IsPossible, domain_at, clock_at, device_at, with_absent, with_denied, with_free, with_kept};
 ghost use Rattle.scmi_plan.specs.Plan.{IsValid};
 ghost use Rattle.scmi_plan.specs.PlanError.{first_fault};
 ghost use Rattle.scmi_plan.specs.RawPlan.{asked_board};
@@ -12,7 +12,8 @@ ghost use Rattle.scmi_plan.specs.Rates.{HasValidRates};
 ghost use Rattle.scmi_plan.specs.declared.plan_error.PlanError.TheVariants.{Memory};
 
 use crate::agent_channel::{AgentChannel, LEAST_CHANNEL_WORDS, WHOLE_CHANNEL};
-use crate::build::{build_agents, build_clocks, build_devices, build_domains, build_name};
+use crate::board_rows::BoardRows;
+use crate::build::build_rows;
 use crate::channel_error::ChannelError;
 use crate::clock::Clock;
 use crate::denied::Denied;
@@ -45,6 +46,8 @@ pub struct Plan {
     channels: [AgentChannel; AGENTS],
     kept: Device,
     denied: Denied,
+    absent: Device,
+    free: u32,
     domain_holders: [u32; DOMAINS],
     clock_holders: [u32; CLOCKS],
 }
@@ -88,29 +91,47 @@ impl Plan {
         ensures ok { IfOk result (λ plan. plan ≡ asked_board raw.now) }
         ensures memory { IfErr result (λ e. e ≡ Memory) }
     {
+        Ok(Plan::filled(build_rows(alloc, raw)?))
+    }
+
+    /// The plan of a board's rows. If the board breaks rules of the profile, the error is the first
+    /// of them in the order of the numbers of `PlanError` (own). It takes no memory.
+    pub fn of_rows(rows: BoardRows) -> Result<Plan, PlanError>
+        ensures ok { IfOk result (λ plan. plan ≡ rows) }
+        ensures no_fault { OnOk result (first_fault rows ≡ None) }
+        ensures fault { IfErr result (λ e. first_fault rows ≡ Some e) }
+    {
+        if let Some(fault) = rows.fault() {
+            return Err(fault);
+        }
+        Ok(Plan::filled(rows))
+    }
+
+    fn filled(rows: BoardRows) -> Plan
+        requires { IsValid rows }
+        ensures { result ≡ rows }
+    {
         let mut domain_holders = [0; DOMAINS];
-        fill_domain_holders(&mut domain_holders, &raw.devices);
+        fill_domain_holders(&mut domain_holders, &rows.devices);
         let mut clock_holders = [0; CLOCKS];
-        fill_clock_holders(&mut clock_holders, &raw.devices);
-        Ok(Plan {
-            vendor: build_name(&raw.vendor),
-            sub_vendor: build_name(&raw.sub_vendor),
-            version: raw.version,
-            trusted: raw.trusted,
-            agents: build_agents(alloc, &raw.agents)?,
-            domains: build_domains(alloc, &raw.domains)?,
-            devices: build_devices(alloc, &raw.devices)?,
-            // Last of those that take memory: no error drops the clocks and their rates.
-            clocks: build_clocks(alloc, &raw.clocks)?,
+        fill_clock_holders(&mut clock_holders, &rows.devices);
+        Plan {
+            vendor: rows.vendor,
+            sub_vendor: rows.sub_vendor,
+            version: rows.version,
+            trusted: rows.trusted,
+            agents: rows.agents,
+            domains: rows.domains,
+            clocks: rows.clocks,
+            devices: rows.devices,
             channels: [WHOLE_CHANNEL; AGENTS],
-            kept: Device {
-                domains: 0,
-                clocks: 0,
-            },
+            kept: Device::nothing(),
             denied: Denied::nothing(),
+            absent: Device::nothing(),
+            free: 0,
             domain_holders,
             clock_holders,
-        })
+        }
     }
 
     /// The vendor's name.
@@ -157,8 +178,8 @@ impl Plan {
         &self.agents[agent as usize - 1]
     }
 
-    /// What an agent's channels are. `Plan::check` gives each agent whole ones: 64 words of payload,
-    /// both ways, and all 8 pending sets may be the agent's.
+    /// What an agent's channels are. A plan is made with whole ones: 64 words of payload, both ways,
+    /// and all 8 pending sets may be the agent's.
     #[inline(always)]
     pub fn channel(&self, agent: u32) -> AgentChannel
         requires agent { IsAgent (length self.now.agents) agent }
@@ -206,17 +227,9 @@ impl Plan {
         ensures error { IfErr result (λ e. e ≡ NotOnBoard.Resource) }
         ensures err { OnErr result (self.new ≡ self.old) }
     {
-        match resource {
-            Resource::Domain(domain) if domain < self.domains() => {
-                self.kept.domains = with_bit(self.kept.domains, domain);
-                Ok(())
-            }
-            Resource::Clock(clock) if clock < self.clocks() => {
-                self.kept.clocks = with_bit(self.kept.clocks, clock);
-                Ok(())
-            }
-            _ => Err(NotOnBoard::Resource),
-        }
+        self.check_on_board(resource)?;
+        self.kept.add(resource);
+        Ok(())
     }
 
     /// Whether no agent may switch a domain or clock of the board off.
@@ -225,6 +238,23 @@ impl Plan {
         ensures { result ≡ is_kept self.now resource }
     {
         self.kept.holds(resource)
+    }
+
+    /// Refuses a domain or clock that the board lacks.
+    fn check_on_board(&self, resource: Resource) -> Result<(), NotOnBoard>
+        ensures on_board { (result ≡ Ok tt) ↔ IsOnBoard self.now resource }
+        ensures error { IfErr result (λ e. e ≡ NotOnBoard.Resource) }
+        ensures possible { OnOk result (IsPossible resource) }
+    {
+        let (number, count) = match resource {
+            Resource::Domain(domain) => (domain, self.domains()),
+            Resource::Clock(clock) => (clock, self.clocks()),
+        };
+        if number < count {
+            Ok(())
+        } else {
+            Err(NotOnBoard::Resource)
+        }
     }
 
     /// Denies an agent devices from the start, or a protocol on them (own): bit d of `devices` is for
@@ -255,6 +285,50 @@ impl Plan {
         ensures { result.now ≡ self.now.denied }
     {
         &self.denied
+    }
+
+    /// Says that a power domain or clock is not there, though it has a number (own): it is to every
+    /// agent as one that the board lacks. `Resource`, the only error, if the board lacks it; nothing
+    /// changed then. It takes no memory.
+    pub fn set_absent(&mut self, resource: Resource) -> Result<(), NotOnBoard>
+        ensures ok { OnOk result (self.new ≡ with_absent self.old resource) }
+        ensures on_board { (result ≡ Ok tt) ↔ IsOnBoard self.old resource }
+        ensures error { IfErr result (λ e. e ≡ NotOnBoard.Resource) }
+        ensures err { OnErr result (self.new ≡ self.old) }
+    {
+        self.check_on_board(resource)?;
+        self.absent.add(resource);
+        Ok(())
+    }
+
+    /// Whether a domain or clock of the board is not there.
+    pub fn is_absent(&self, resource: Resource) -> bool
+        requires { IsOnBoard self.now resource }
+        ensures { result ≡ is_absent self.now resource }
+    {
+        self.absent.holds(resource)
+    }
+
+    /// Frees a clock (own): it takes each rate as it is asked for, in Hz, and the hardware says what
+    /// came of it. `Resource`, the only error, if the board lacks the clock; nothing changed then.
+    /// It takes no memory.
+    pub fn set_free(&mut self, clock: u32) -> Result<(), NotOnBoard>
+        ensures ok { OnOk result (self.new ≡ with_free self.old clock) }
+        ensures on_board { (result ≡ Ok tt) ↔ (clock < length self.old.clocks) }
+        ensures error { IfErr result (λ e. e ≡ NotOnBoard.Resource) }
+        ensures err { OnErr result (self.new ≡ self.old) }
+    {
+        self.check_on_board(Resource::Clock(clock))?;
+        self.free = with_bit(self.free, clock);
+        Ok(())
+    }
+
+    /// Whether a clock of the board takes each rate as it is asked for.
+    pub fn is_free(&self, clock: u32) -> bool
+        requires { clock < length self.now.clocks }
+        ensures { result ≡ is_free self.now clock }
+    {
+        (self.free >> clock) & 1 == 1
     }
 
     /// The number of power domains, at most 32. They are numbered from 0.

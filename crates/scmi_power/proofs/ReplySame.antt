@@ -1,6 +1,6 @@
 -- Views that agree on the board's domains give the same replies.
 use Rattle.std.proofs.Common.{◌≡◌, ◌⊎◌, inl, inr, ℕ, ◌<◌, true, false, length, refl}
-use Rattle.std.proofs.lemmas.Bool.{leb-false, cases_Bool}
+use Rattle.std.proofs.lemmas.Bool.{leb-false, cases_Bool, or_parts}
 use Rattle.scmi_codec.specs.declared.power_command.PowerCommand.{PowerCommand}
 use Rattle.scmi_codec.specs.declared.power_command.PowerCommand.TheVariants as power
 use Rattle.scmi_plan.specs.Board.{Board}
@@ -16,7 +16,7 @@ pub record SameView (board : Board) (v w : PowerView) : Type 0 where
 
 -- a domain that is not unknown is one of the board
 known : (board : Board) (d : ℕ) → no_domain board d ≡ false → d < length board.domains
-known board d h = leb-false (length board.domains) d h
+known board d h = leb-false (length board.domains) d (or_parts _ _ h).0
 
 -- then each command has one reply
 pub power_reply-same : (board : Board) (v w : PowerView) → SameView board v w → (c : PowerCommand) → power_reply board v c ≡ power_reply board w c

@@ -4,7 +4,7 @@ use Rattle.scmi_codec.specs.Listing.{is_listed}
 use Rattle.scmi_codec.specs.declared.power_command.PowerCommand.{PowerCommand}
 use Rattle.scmi_codec.specs.declared.power_command.PowerCommand.TheVariants as power
 use Rattle.scmi_codec.specs.declared.status.Status.TheVariants.{NotFound, InvalidParameters, NotSupported, Denied, Busy}
-use Rattle.scmi_plan.specs.Board.{Board, domain_at, is_kept}
+use Rattle.scmi_plan.specs.Board.{Board, domain_at, is_absent, is_kept}
 use Rattle.scmi_plan.specs.declared.agent_channel.AgentChannel.{AgentChannel}
 use Rattle.scmi_plan.specs.declared.domain.Domain.{Domain}
 use Rattle.scmi_plan.specs.declared.resource.Resource.TheVariants as resource
@@ -36,9 +36,9 @@ state_off = 0x40000000
 abbrev pub is_state : ℕ → Bool
 is_state state = state == state_on || state == state_off
 
--- the board has no such domain; they are numbered from 0
+-- the board has no such domain, or it is not there; they are numbered from 0
 abbrev pub no_domain : Board → ℕ → Bool
-no_domain board d = nat_le (length board.domains) d
+no_domain board d = nat_le (length board.domains) d || is_absent board (resource.Domain d)
 
 -- the value of a bit that is set if b
 abbrev pub bit : Bool → ℕ → ℕ

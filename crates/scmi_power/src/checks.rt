@@ -64,14 +64,14 @@ pub(crate) fn check_notify(
     Ok(enabled)
 }
 
-/// NOT_FOUND if the board has no such domain.
+/// NOT_FOUND if the board has no such domain, or it is not there (own).
 pub(crate) fn check_domain(plan: &Plan, domain: u32) -> Result<(), Status>
     ensures first { result ≡ (if no_domain plan.now domain then Err NotFound else Ok tt) }
     ensures known { IfOk result (λ u. domain < length plan.now.domains) }
     ensures domain { IfOk result (λ u. domain < DOMAINS) }
     ensures valid { IsValid plan.now }
 {
-    if domain >= plan.domains() {
+    if domain >= plan.domains() || plan.is_absent(Resource::Domain(domain)) {
         return Err(Status::NotFound);
     }
     Ok(())

@@ -1,7 +1,8 @@
 //! Hardware that takes a register write for each change.
 ghost use Rattle.std.specs.Prelude.{true, ⊤};
 
-use scmi_core::{Effect, Fault, Hardware};
+use scmi_codec::Fault;
+use scmi_core::{Effect, Hardware};
 
 /// Registers of 32 domains and 32 clocks, as a driver writes them. Of another it refuses the change.
 #[derive(Drop)]
@@ -29,14 +30,17 @@ impl Hardware for Registers {
 
     fn apply(&mut self, effect: Effect) -> Result<(), Fault> {
         match effect {
-            Effect::State { domain, state } => *self.states.get_mut(domain as usize).ok_or(Fault)? =
-                state,
-            Effect::Rate { clock, rate } => *self.rates.get_mut(clock as usize).ok_or(Fault)? =
-                rate,
-            Effect::Enabled { clock, enabled } => {
-                *self.enabled.get_mut(clock as usize).ok_or(Fault)? = enabled;
-            }
+            Effect::State { domain, state } => write(&mut self.states, domain, state),
+            Effect::Rate { clock, rate } => write(&mut self.rates, clock, rate),
+            Effect::Enabled { clock, enabled } => write(&mut self.enabled, clock, enabled),
         }
-        Ok(())
     }
+}
+
+/// Writes the register of this number, if there is one.
+fn write<T: Copy>(registers: &mut [T], number: u32, value: T) -> Result<(), Fault> {
+    *registers
+        .get_mut(number as usize)
+        .ok_or(Fault::HardwareError)? = value;
+    Ok(())
 }

@@ -18,7 +18,7 @@ use Rattle.scmi_text.specs.declared.step.Call.{Call}
 use Rattle.scmi_text.specs.declared.step.PlatformStep.{PlatformStep}
 use Rattle.scmi_text.specs.declared.step.PlatformStep.TheVariants.{Serve, Flush, Shut}
 use Rattle.scmi_text.specs.declared.step.Step.{Step}
-use Rattle.scmi_text.specs.declared.step.Step.TheVariants.{Agent, Platform, Do, Advance, Fail, AdvanceFailed, Restart}
+use Rattle.scmi_text.specs.declared.step.Step.TheVariants.{Agent, Platform, Do, Advance, Fail, AdvanceFailed, Report, Restart}
 use Rattle.scmi_text.specs.declared.step_line.StepLine.{StepLine}
 use Rattle.scmi_text.specs.declared.step_line.StepLine.TheVariants as line
 use Rattle.scmi_session.specs.Run.{AllSteps, Runs}
@@ -52,8 +52,9 @@ module _ (full : Bool) (Shows : CallerView → Result Closing CloseError → Typ
   one_step (Do a call) (line.NotPosted b refusal) old new without made all = at_agent a _ old new made.1 all
   one_step (Do a call) (line.Collected b answer) old new without made all = exchanged a call answer old new made.1 all
   one_step Advance (line.Advanced more) old new without made all = advanced more old.platform new.platform made.makes all
-  one_step (Fail a call) l old new without made all = absurd without
-  one_step AdvanceFailed l old new without made all = absurd without
+  one_step (Fail a fault call) l old new without made all = absurd without
+  one_step (AdvanceFailed fault) l old new without made all = absurd without
+  one_step (Report effect) l old new without made all = absurd without
   one_step (Restart a) l old new without made all = absurd without
   one_step s l old new without made all = absurd made
 

@@ -5,7 +5,7 @@ use Rattle.scmi_text.specs.declared.step.AgentStep.TheVariants.{Call, Raw, Malfo
 use Rattle.scmi_text.specs.declared.step.PlatformStep.{PlatformStep}
 use Rattle.scmi_text.specs.declared.step.PlatformStep.TheVariants.{Serve, Flush, Shut}
 use Rattle.scmi_text.specs.declared.step.Step.{Step}
-use Rattle.scmi_text.specs.declared.step.Step.TheVariants.{Agent, Platform, Do, Advance, Fail, AdvanceFailed, Restart}
+use Rattle.scmi_text.specs.declared.step.Step.TheVariants.{Agent, Platform, Do, Advance, Fail, AdvanceFailed, Report, Restart}
 use Rattle.scmi_text.specs.declared.step_line.StepLine.{StepLine}
 use Rattle.scmi_text.specs.declared.step_line.StepLine.TheVariants as line
 
@@ -36,9 +36,10 @@ IsLineOf (Platform a step) l = IsPlatformLine a step l
 IsLineOf (Do a call) (line.NotPosted b refusal) = b ≡ a
 IsLineOf (Do a call) (line.Collected b collected) = b ≡ a
 IsLineOf Advance (line.Advanced more) = Unit {0}
-IsLineOf (Fail a call) (line.NotPosted b refusal) = b ≡ a
-IsLineOf (Fail a call) (line.Collected b collected) = b ≡ a
-IsLineOf AdvanceFailed (line.AdvanceFailed more) = Unit {0}
+IsLineOf (Fail a fault call) (line.NotPosted b refusal) = b ≡ a
+IsLineOf (Fail a fault call) (line.Collected b collected) = b ≡ a
+IsLineOf (AdvanceFailed fault) (line.AdvanceFailed more) = Unit {0}
+IsLineOf (Report effect) (line.Reported taken) = Unit {0}
 IsLineOf (Restart a) (line.Restarted b) = b ≡ a
 IsLineOf _ _ = ⊥
 

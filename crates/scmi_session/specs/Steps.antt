@@ -1,5 +1,5 @@
 -- What each step of a session leaves, and what its line says about it.
-use Rattle.std.specs.Prelude.{◌≡◌, ◌≢◌, ℕ, ◌+◌, ◌-◌, ◌%◌, ◌<◌, Bool, true, false, [], ◌∷◌, ◌++◌, length, slice_get, slice_set, Option, Some, None, Result, Ok, Err}
+use Rattle.std.specs.Prelude.{◌≡◌, ◌≢◌, ℕ, ◌+◌, ◌-◌, ◌%◌, ◌<◌, Bool, true, false, [], ◌∷◌, ◌++◌, ◌⊎◌, length, slice_get, slice_set, Option, Some, None, Result, Ok, Err}
 use Rattle.scmi_codec.specs.Area.{is_well_formed}
 use Rattle.scmi_codec.specs.Command.{protocol_header}
 use Rattle.scmi_codec.specs.declared.frame.Frame.{Frame}
@@ -13,10 +13,12 @@ use Rattle.scmi_link.specs.declared.collected.Collected.{Collected}
 use Rattle.scmi_link.specs.declared.collected.Collected.TheVariants as collected
 use Rattle.scmi_link.specs.declared.post_error.PostError.{PostError}
 use Rattle.scmi_link.specs.declared.post_error.PostError.TheVariants as refused
-use Rattle.scmi_core.specs.Asked.{IsAllRefused}
+use Rattle.scmi_codec.specs.declared.fault.Fault.{Fault}
 use Rattle.scmi_core.specs.Effect.{effect_after}
+use Rattle.scmi_plan.specs.declared.effect.Effect.{Effect}
 use Rattle.scmi_core.specs.History.{deeds}
 use Rattle.scmi_core.specs.Pending.{pending_sets}
+use Rattle.scmi_core.specs.Value.{HasNoResource, HasNoState, IsReportable}
 use Rattle.scmi_core.specs.declared.event.Event.TheVariants as event
 use Rattle.scmi_script.specs.declared.served.Served.{Served}
 use Rattle.scmi_ends.specs.AgentView.{AgentView}
@@ -32,9 +34,10 @@ use Rattle.scmi_text.specs.declared.step.AgentStep.TheVariants as agent
 use Rattle.scmi_text.specs.declared.step.PlatformStep.{PlatformStep}
 use Rattle.scmi_text.specs.declared.step.PlatformStep.TheVariants as platform
 use Rattle.scmi_text.specs.declared.step.Step.{Step}
-use Rattle.scmi_text.specs.declared.step.Step.TheVariants.{Agent, Platform, Do, Advance, Fail, AdvanceFailed, Restart}
+use Rattle.scmi_text.specs.declared.step.Step.TheVariants.{Agent, Platform, Do, Advance, Fail, AdvanceFailed, Report, Restart}
 use Rattle.scmi_text.specs.declared.step_line.StepLine.{StepLine}
 use Rattle.scmi_text.specs.declared.step_line.StepLine.TheVariants as line
+use Rattle.scmi_session.specs.Refusing.{IsAllRefusedWith}
 use Rattle.scmi_session.specs.SessionView.{SessionView}
 
 -- the frame of a command that carries this token
@@ -91,20 +94,25 @@ abbrev pub Advances : ControllerView → Bool → ControllerView → Type 0
 Advances old true new = (0 < length (pending_sets old.board (deeds old.board old.history))) × (new ≡ record old { history = old.history ++ event.Advance ∷ []; room = new.room })
 Advances old false new = (pending_sets old.board (deeds old.board old.history) ≡ []) × (new ≡ old)
 
--- one pending set is ended as failed, if there is one: the hardware refused its change
-abbrev pub AdvancesRefused : ControllerView → Bool → ControllerView → Type 0
-AdvancesRefused old true new = (0 < length (pending_sets old.board (deeds old.board old.history))) × (new ≡ record old { history = old.history ++ event.AdvanceFailed ∷ []; room = new.room })
-AdvancesRefused old false new = (pending_sets old.board (deeds old.board old.history) ≡ []) × (new ≡ old)
+-- one pending set is ended as failed, if there is one: the hardware refused its change with this fault
+abbrev pub AdvancesRefused : Fault → ControllerView → Bool → ControllerView → Type 0
+AdvancesRefused fault old true new = (0 < length (pending_sets old.board (deeds old.board old.history))) × (new ≡ record old { history = old.history ++ event.AdvanceFailed fault ∷ []; room = new.room })
+AdvancesRefused fault old false new = (pending_sets old.board (deeds old.board old.history) ≡ []) × (new ≡ old)
+
+-- a change that the hardware made by itself is taken over, and nothing else is done; or it is not, and nothing changes, if the board lacks the domain or clock or has no such state
+abbrev pub Reports : Effect → ControllerView → Bool → ControllerView → Type 0
+Reports effect old true new = IsReportable old.board effect × (new ≡ record old { history = old.history ++ event.Reported effect ∷ []; room = new.room })
+Reports effect old false new = (HasNoResource old.board effect ⊎ HasNoState old.board effect) × (new ≡ old)
 
 -- what agent a asked for has ended, since it restarted without the platform; its channels stay as they were
 abbrev pub Restarts : ℕ → ControllerView → ControllerView → Type 0
 Restarts a old new = new ≡ record old { history = old.history ++ event.Restarted a ∷ []; room = new.room }
 
--- agent a is served beside hardware that refuses each change: a command that is then in the history was to make none, and one that failed was to make one
-pub record ServesRefused (a : ℕ) (old : ControllerView) (served : Served) (new : ControllerView) : Type 0 where
-  pub serves : ServesOn a old IsAllRefused served new IsAllRefused
+-- agent a is served beside hardware that refuses each change with this fault: a command that is then in the history was to make none, and one that failed was to make one, and failed with it
+pub record ServesRefused (fault : Fault) (a : ℕ) (old : ControllerView) (served : Served) (new : ControllerView) : Type 0 where
+  pub serves : ServesOn a old (IsAllRefusedWith fault) served new (IsAllRefusedWith fault)
   pub done : (frame : Frame) → new.history ≡ old.history ++ event.Command a frame ∷ [] → effect_after old.board old.history (event.Command a frame) ≡ None
-  pub failed : (frame : Frame) → new.history ≡ old.history ++ event.CommandFailed a frame ∷ [] → effect_after old.board old.history (event.Command a frame) ≢ None
+  pub failed : (frame : Frame) (given : Fault) → new.history ≡ old.history ++ event.CommandFailed a frame given ∷ [] → (given ≡ fault) × (effect_after old.board old.history (event.Command a frame) ≢ None)
 
 -- a post is refused at the agent's end of A2P, and nothing else changes
 pub record IsRefusedAt (full : Bool) (old : AgentView) (refusal : PostError) (new : AgentView) : Type 0 where
@@ -161,9 +169,10 @@ module _ (full : Bool) (Shows : CallerView → Result Closing CloseError → Typ
   Steps (Do a call) (line.NotPosted b refusal) old new = (b ≡ a) × AtAgent a (λ before after. IsRefusedAt full before refusal after) old new
   Steps (Do a call) (line.Collected b answer) old new = (b ≡ a) × Exchanges (Serves a) a call answer old new
   Steps Advance (line.Advanced more) old new = AtPlatform (λ before after. Advances before more after) old new
-  Steps (Fail a call) (line.NotPosted b refusal) old new = (b ≡ a) × AtAgent a (λ before after. IsRefusedAt full before refusal after) old new
-  Steps (Fail a call) (line.Collected b answer) old new = (b ≡ a) × Exchanges (ServesRefused a) a call answer old new
-  Steps AdvanceFailed (line.AdvanceFailed more) old new = AtPlatform (λ before after. AdvancesRefused before more after) old new
+  Steps (Fail a fault call) (line.NotPosted b refusal) old new = (b ≡ a) × AtAgent a (λ before after. IsRefusedAt full before refusal after) old new
+  Steps (Fail a fault call) (line.Collected b answer) old new = (b ≡ a) × Exchanges (ServesRefused fault a) a call answer old new
+  Steps (AdvanceFailed fault) (line.AdvanceFailed more) old new = AtPlatform (λ before after. AdvancesRefused fault before more after) old new
+  Steps (Report effect) (line.Reported taken) old new = AtPlatform (λ before after. Reports effect before taken after) old new
   Steps (Restart a) (line.Restarted b) old new = (b ≡ a) × AtPlatform (λ before after. Restarts a before after) old new
   Steps _ _ old new = ⊥
 
@@ -175,10 +184,11 @@ pub record OnlyCalls (a : ℕ) (call : Call) (old new : SessionView) : Type 0 wh
 -- what is left if memory was refused: nothing was taken, executed or posted but the command of a `do` or a `fail`
 abbrev pub StopsFor : Step → SessionView → SessionView → Type 0
 StopsFor (Do a call) old new = OnlyCalls a call old new
-StopsFor (Fail a call) old new = OnlyCalls a call old new
+StopsFor (Fail a fault call) old new = OnlyCalls a call old new
 StopsFor (Platform a platform.Serve) old new = new ≡ old
 StopsFor (Platform a platform.Flush) old new = new ≡ old
 StopsFor Advance old new = new ≡ old
-StopsFor AdvanceFailed old new = new ≡ old
+StopsFor (AdvanceFailed fault) old new = new ≡ old
+StopsFor (Report effect) old new = new ≡ old
 StopsFor (Restart a) old new = new ≡ old
 StopsFor _ old new = ⊥

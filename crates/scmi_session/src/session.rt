@@ -1,8 +1,9 @@
 //! Both sides of a board on one thread.
 ghost use Rattle.std.specs.Prelude.{◌≡◌};
 
-use crate::{agent_steps, refused_steps};
-use scmi_core::{Core, Trace};
+use crate::{agent_steps, refused_steps, report_step};
+use scmi_codec::Fault;
+use scmi_core::{Core, Effect, Trace};
 use scmi_ends::{AgentEnd, Controller, Link, Served, connect};
 use scmi_link::Channel;
 use scmi_plan::Plan;
@@ -86,8 +87,9 @@ impl<C: Channel> Session<C> {
             },
             Step::Do { agent, call } => self.exchange(*agent, call),
             Step::Advance => self.advance(),
-            Step::Fail { agent, call } => self.exchange_refused(*agent, call),
-            Step::AdvanceFailed => self.advance_refused(),
+            Step::Fail { agent, fault, call } => self.exchange_refused(*agent, *fault, call),
+            Step::AdvanceFailed { fault } => self.advance_refused(*fault),
+            Step::Report { effect } => self.report(*effect),
             Step::Restart { agent } => self.restart(*agent),
         }
     }
@@ -186,40 +188,55 @@ impl<C: Channel> Session<C> {
         Ok(self.collect(agent))
     }
 
-    /// As `exchange`, beside hardware that refuses each change.
-    fn exchange_refused(&mut self, agent: u32, call: &Call) -> Result<StepLine, AllocError>
+    /// As `exchange`, beside hardware that refuses each change with this fault.
+    fn exchange_refused(
+        &mut self,
+        agent: u32,
+        fault: Fault,
+        call: &Call,
+    ) -> Result<StepLine, AllocError>
         requires { IsAgent (length self.old.agents) agent }
         ensures agents { length self.new.agents ≡ length self.old.agents }
         ensures step { IfOk result (λ line.
-            Steps C.FULL (ShowsClose C.caller_view C.close_shows) (Step.Fail agent call.now) line self.old self.new) }
-        ensures err { OnErr result (StopsFor (Step.Fail agent call.now) self.old self.new) }
+            Steps C.FULL (ShowsClose C.caller_view C.close_shows) (Step.Fail agent fault call.now) line self.old self.new) }
+        ensures err { OnErr result (StopsFor (Step.Fail agent fault call.now) self.old self.new) }
     {
         match self.call(agent, call) {
             StepLine::Token { .. } => {}
             refused => return Ok(refused),
         }
-        self.serve_refused(agent)?;
+        self.serve_refused(agent, fault)?;
         Ok(self.collect(agent))
     }
 
-    fn serve_refused(&mut self, agent: u32) -> Result<Served, AllocError>
+    fn serve_refused(&mut self, agent: u32, fault: Fault) -> Result<Served, AllocError>
         requires { IsAgent (length self.old.agents) agent }
         ensures agents { length self.new.agents ≡ length self.old.agents }
         ensures step { IfOk result (λ served. AtPlatform
-            (λ before after. ServesRefused agent before served after) self.old self.new) }
+            (λ before after. ServesRefused fault agent before served after) self.old self.new) }
         ensures err { OnErr result (self.new ≡ self.old) }
     {
-        refused_steps::serve(agent, &mut self.controller, &self.links)
+        refused_steps::serve(fault, agent, &mut self.controller, &self.links)
     }
 
-    fn advance_refused(&mut self) -> Result<StepLine, AllocError>
+    fn advance_refused(&mut self, fault: Fault) -> Result<StepLine, AllocError>
         ensures agents { length self.new.agents ≡ length self.old.agents }
         ensures step { IfOk result (λ line.
-            Steps C.FULL (ShowsClose C.caller_view C.close_shows) Step.AdvanceFailed line self.old self.new) }
+            Steps C.FULL (ShowsClose C.caller_view C.close_shows) (Step.AdvanceFailed fault) line self.old self.new) }
         ensures err { OnErr result (self.new ≡ self.old) }
     {
-        let more = refused_steps::advance(&mut self.controller)?;
+        let more = refused_steps::advance(fault, &mut self.controller)?;
         Ok(StepLine::AdvanceFailed { more })
+    }
+
+    fn report(&mut self, effect: Effect) -> Result<StepLine, AllocError>
+        ensures agents { length self.new.agents ≡ length self.old.agents }
+        ensures step { IfOk result (λ line.
+            Steps C.FULL (ShowsClose C.caller_view C.close_shows) (Step.Report effect) line self.old self.new) }
+        ensures err { OnErr result (self.new ≡ self.old) }
+    {
+        let taken = report_step::report(effect, &mut self.controller)?;
+        Ok(StepLine::Reported { taken })
     }
 
     fn restart(&mut self, agent: u32) -> Result<StepLine, AllocError>

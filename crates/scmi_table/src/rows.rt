@@ -1,7 +1,7 @@
 //! The tables of a board, a row a line. A table without rows is left out.
 
 use crate::in_string::InString;
-use crate::said::{channel_of, denied_to, is_kept};
+use crate::said::{channel_of, denied_to, is_absent, is_free, is_kept};
 use scmi_board::{BoardLine, BoardWithLines};
 use scmi_codec::{AREA_BYTES, PAYLOAD_WORDS};
 use scmi_plan::{Device, PENDING_SETS, Rates, RawClock, RawDomain, Resource, Scope};
@@ -70,6 +70,26 @@ fn write_kept<W: Write>(writer: &mut W, lines: &[BoardLine], resource: Resource)
     write!(writer, ", .kept = 1")
 }
 
+/// Writes that a domain or clock is not there, if it is so.
+fn write_absent<W: Write>(
+    writer: &mut W,
+    lines: &[BoardLine],
+    resource: Resource,
+) -> io::Result<()> {
+    if !is_absent(lines, resource) {
+        return Ok(());
+    }
+    write!(writer, ", .absent = 1")
+}
+
+/// Writes that a clock takes each rate as it is asked for, if it is so.
+fn write_free<W: Write>(writer: &mut W, lines: &[BoardLine], clock: u32) -> io::Result<()> {
+    if !is_free(lines, clock) {
+        return Ok(());
+    }
+    write!(writer, ", .free = 1")
+}
+
 pub(crate) fn write_domains<W: Write>(writer: &mut W, said: &BoardWithLines) -> io::Result<()> {
     if said.board.domains.is_empty() {
         return Ok(());
@@ -81,6 +101,7 @@ pub(crate) fn write_domains<W: Write>(writer: &mut W, said: &BoardWithLines) -> 
     for (number, domain) in (0..u32::MAX).zip(said.board.domains.iter()) {
         write_domain(writer, domain)?;
         write_kept(writer, &said.lines, Resource::Domain(number))?;
+        write_absent(writer, &said.lines, Resource::Domain(number))?;
         writeln!(writer, " }},")?;
     }
     write_end(writer)
@@ -110,6 +131,8 @@ pub(crate) fn write_clocks<W: Write>(writer: &mut W, said: &BoardWithLines) -> i
     for (number, clock) in (0..u32::MAX).zip(said.board.clocks.iter()) {
         write_clock(writer, first, clock)?;
         write_kept(writer, &said.lines, Resource::Clock(number))?;
+        write_absent(writer, &said.lines, Resource::Clock(number))?;
+        write_free(writer, &said.lines, number)?;
         writeln!(writer, " }},")?;
         first = first.saturating_add(list_of(clock).len());
     }

@@ -15,8 +15,8 @@ use std::io::{Read, Write};
 /// text is written as the only line. Nothing is written before the whole text is read and every
 /// rule was checked. An output that fails gives status 1.
 ///
-/// The board's text is that from its line `board` to its line `end`, with lines `channel`, `keep`
-/// and `deny`; only empty lines and comments may follow.
+/// The board's text is that from its line `board` to its line `end`, with lines `channel`, `keep`,
+/// `deny`, `absent` and `free`; only empty lines and comments may follow.
 pub fn run_table<R: Read, W: Write>(alloc: Global, reader: &mut R, writer: &mut W) -> u8
     ensures board { result ≡ 0 → HoldsBoard (R.remaining reader.old) }
     ensures fault { result ≢ 0 → result ≢ 1 → EndsWithFault (R.remaining reader.old) result

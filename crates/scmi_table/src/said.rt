@@ -33,3 +33,13 @@ pub(crate) fn denied_to(lines: &[BoardLine], agent: u32, scope: Scope) -> u32 {
 pub(crate) fn is_kept(lines: &[BoardLine], resource: Resource) -> bool {
     lines.contains(&BoardLine::Keep(resource))
 }
+
+/// Whether a domain or a clock has a number and is not there.
+pub(crate) fn is_absent(lines: &[BoardLine], resource: Resource) -> bool {
+    lines.contains(&BoardLine::Absent(resource))
+}
+
+/// Whether a clock takes each rate as it is asked for.
+pub(crate) fn is_free(lines: &[BoardLine], clock: u32) -> bool {
+    lines.contains(&BoardLine::Free(clock))
+}

@@ -5,7 +5,8 @@
 //!
 //! | name | has besides |
 //! |---|---|
-//! | `Event` | `CommandFailed`, `AdvanceFailed`, `Restarted` |
+//! | `Event` | `CommandFailed` and `AdvanceFailed`, each with a `Fault`, `Restarted`, and `Reported` |
+//! | `CoreError` | `NoResource` and `NoState`, of a report |
 //! | `AgentLog` | `reply_looks`, `message_looks` |
 //! | `Channel` | ghost members, by which contracts speak of a channel |
 //! | the program | a library, `scmi_modes`, which has its names, and two below it |

@@ -35,8 +35,8 @@ unfolding filled digits
 each_p2a = refl
 
 -- calls of the platform, closes, and the end of a run
-each_platform_call : flat_map step_text (step.Served 1 served.Nothing ∷ step.Served 1 served.Done ∷ step.Flushed 2 flushed.Nothing ∷ step.Flushed 2 flushed.Waiting ∷ step.Flushed 2 flushed.Posted ∷ step.Flushed 2 flushed.Closed ∷ step.Advanced true ∷ step.Advanced false ∷ step.AdvanceFailed true ∷ step.AdvanceFailed false ∷ step.Restarted 2 ∷ step.Trace 12 ∷ [])
-    ≡ codes "serve 1 nothing\nserve 1 done\nflush 2 nothing\nflush 2 waiting\nflush 2 posted\nflush 2 closed\nadvance yes\nadvance no\nadvance failed yes\nadvance failed no\nrestart 2 done\ntrace 12\n"
+each_platform_call : flat_map step_text (step.Served 1 served.Nothing ∷ step.Served 1 served.Done ∷ step.Flushed 2 flushed.Nothing ∷ step.Flushed 2 flushed.Waiting ∷ step.Flushed 2 flushed.Posted ∷ step.Flushed 2 flushed.Closed ∷ step.Advanced true ∷ step.Advanced false ∷ step.AdvanceFailed true ∷ step.AdvanceFailed false ∷ step.Reported true ∷ step.Reported false ∷ step.Restarted 2 ∷ step.Trace 12 ∷ [])
+    ≡ codes "serve 1 nothing\nserve 1 done\nflush 2 nothing\nflush 2 waiting\nflush 2 posted\nflush 2 closed\nadvance yes\nadvance no\nadvance failed yes\nadvance failed no\nreport yes\nreport no\nrestart 2 done\ntrace 12\n"
 unfolding filled digits
 each_platform_call = refl
 

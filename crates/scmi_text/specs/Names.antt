@@ -59,7 +59,7 @@ abbrev pub shut_text : {A : Type 0} → Result A ShutError → List ℕ
 shut_text (Ok done) = OK.now
 shut_text (Err error) = shut_error_text error
 
--- whether there was a pending set to end
+-- whether there was a pending set to end, or a report was taken over
 abbrev pub advanced_text : Bool → List ℕ
 advanced_text true = YES.now
 advanced_text false = NO.now

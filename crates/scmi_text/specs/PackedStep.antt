@@ -8,7 +8,7 @@ use Rattle.scmi_text.specs.declared.step.AgentStep.TheVariants as agent
 use Rattle.scmi_text.specs.declared.step.Step.{Step}
 use Rattle.scmi_text.specs.declared.step.Step.TheVariants as step
 use Rattle.scmi_text.specs.declared.packed_step.Head.{Head}
-use Rattle.scmi_text.specs.declared.packed_step.Head.TheVariants.{Do, Call, Raw, Malformed, Collect, P2a, Close, Platform, Advance, Fail, AdvanceFailed, Restart}
+use Rattle.scmi_text.specs.declared.packed_step.Head.TheVariants.{Do, Call, Raw, Malformed, Collect, P2a, Close, Platform, Advance, Fail, AdvanceFailed, Report, Restart}
 use Rattle.scmi_text.specs.declared.packed_step.PackedStep.{PackedStep}
 
 -- the command of a protocol, a message id and these payload words
@@ -30,8 +30,9 @@ step_with (P2a a) words = step.Agent a agent.P2a
 step_with (Close a) words = step.Agent a agent.Close
 step_with (Platform a call) words = step.Platform a call
 step_with Advance words = step.Advance
-step_with (Fail a protocol id) words = step.Fail a (call_with protocol id words)
-step_with AdvanceFailed words = step.AdvanceFailed
+step_with (Fail a fault protocol id) words = step.Fail a fault (call_with protocol id words)
+step_with (AdvanceFailed fault) words = step.AdvanceFailed fault
+step_with (Report effect) words = step.Report effect
 step_with (Restart a) words = step.Restart a
 
 -- the step that is kept, where these are the words

@@ -2,7 +2,7 @@
 use Rattle.std.specs.Prelude.{◌≡◌, ℕ, List, [], ◌∷◌, ◌++◌, Option, Some, None, IfSome}
 use Rattle.scmi_plan.specs.Agent.{IsAgent}
 use Rattle.scmi_text.specs.declared.step.Step.{Step}
-use Rattle.scmi_text.specs.declared.step.Step.TheVariants.{Agent, Platform, Do, Advance, Fail, AdvanceFailed, Restart}
+use Rattle.scmi_text.specs.declared.step.Step.TheVariants.{Agent, Platform, Do, Advance, Fail, AdvanceFailed, Report, Restart}
 use Rattle.scmi_text.specs.declared.step_kinds.StepKinds.{StepKinds}
 use Rattle.scmi_text.specs.declared.step_kinds.StepKinds.TheVariants.{WithoutHardware}
 
@@ -12,18 +12,20 @@ step_agent (Agent agent step) = Some agent
 step_agent (Platform agent step) = Some agent
 step_agent (Do agent call) = Some agent
 step_agent Advance = None
-step_agent (Fail agent call) = Some agent
-step_agent AdvanceFailed = None
+step_agent (Fail agent fault call) = Some agent
+step_agent (AdvanceFailed fault) = None
+step_agent (Report effect) = None
 step_agent (Restart agent) = Some agent
 
 -- the agent that a step names is one of the board's
 abbrev pub IsStepOf : ℕ → Step → Type 0
 IsStepOf agents step = IfSome (step_agent step) (IsAgent agents)
 
--- a step is neither one beside hardware that refuses nor the restart of an agent
+-- a step is neither one beside hardware, which refuses or reports, nor the restart of an agent
 abbrev pub IsWithoutHardware : Step → Type 0
-IsWithoutHardware (Fail agent call) = ⊥
-IsWithoutHardware AdvanceFailed = ⊥
+IsWithoutHardware (Fail agent fault call) = ⊥
+IsWithoutHardware (AdvanceFailed fault) = ⊥
+IsWithoutHardware (Report effect) = ⊥
 IsWithoutHardware (Restart agent) = ⊥
 IsWithoutHardware step = Unit {0}
 

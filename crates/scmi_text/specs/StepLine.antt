@@ -9,8 +9,8 @@ use Rattle.scmi_io.specs.Filled.{filled}
 use Rattle.scmi_text.specs.Words.{message_text}
 use Rattle.scmi_text.specs.Names.{refusal_text, served_text, flushed_text, close_text, shut_text, advanced_text}
 use Rattle.scmi_text.specs.declared.step_line.StepLine.{StepLine}
-use Rattle.scmi_text.specs.declared.step_line.StepLine.TheVariants.{Token, Posted, NotPosted, Served, Collected as StepCollected, Advanced, AdvanceFailed, Flushed, P2a, Closed, Shut, Restarted, Trace}
-use Rattle.scmi_text.specs.declared.lines.TheConstants.{ADVANCED, ADVANCE_FAILED, CLOSE, CLOSED, ERROR, FLUSHED, NOT_ANSWERED, NOT_POSTED, NO_P2A, P2A, P2A_ERROR, POSTED, RELEASED, REPLY, RESTARTED, SERVED, SHUT, TOKEN, TRACE}
+use Rattle.scmi_text.specs.declared.step_line.StepLine.TheVariants.{Token, Posted, NotPosted, Served, Collected as StepCollected, Advanced, AdvanceFailed, Reported, Flushed, P2a, Closed, Shut, Restarted, Trace}
+use Rattle.scmi_text.specs.declared.lines.TheConstants.{ADVANCED, ADVANCE_FAILED, CLOSE, CLOSED, ERROR, FLUSHED, NOT_ANSWERED, NOT_POSTED, NO_P2A, P2A, P2A_ERROR, POSTED, RELEASED, REPLY, REPORTED, RESTARTED, SERVED, SHUT, TOKEN, TRACE}
 
 -- what an agent collected, as a line
 abbrev pub collected_text : ℕ → Collected → List ℕ
@@ -39,6 +39,7 @@ step_text (Served agent served) = filled SERVED.now (decimal agent ∷ served_te
 step_text (StepCollected agent collected) = collected_text agent collected
 step_text (Advanced more) = filled ADVANCED.now (advanced_text more ∷ [])
 step_text (AdvanceFailed more) = filled ADVANCE_FAILED.now (advanced_text more ∷ [])
+step_text (Reported taken) = filled REPORTED.now (advanced_text taken ∷ [])
 step_text (Flushed agent flushed) = filled FLUSHED.now (decimal agent ∷ flushed_text flushed ∷ [])
 step_text (P2a agent frame) = p2a_text agent frame
 step_text (Closed agent closing) = filled CLOSE.now (decimal agent ∷ close_text closing ∷ [])

@@ -3,40 +3,89 @@ use Rattle.std.specs.Prelude.{ℕ, ◌++◌, Bool, true, false, if◌then◌else
 use Rattle.std.specs.Str.{bytes_eq}
 use Rattle.scmi_board.specs.Items.{◌>>=◌, ItemsView, first_item, first_number, items_left, no_item}
 use Rattle.scmi_board.specs.Lines.{Line, LinesView, lines_left}
-use Rattle.scmi_text.specs.Fields.{first_agent, first_message, payload_left}
+use Rattle.scmi_codec.specs.Rate.{rate_of}
+use Rattle.scmi_codec.specs.declared.fault.Fault.{Fault}
+use Rattle.scmi_codec.specs.declared.fault.Fault.TheVariants.{HardwareError}
+use Rattle.scmi_plan.specs.declared.effect.Effect.{Effect}
+use Rattle.scmi_plan.specs.declared.effect.Effect.TheVariants.{State, Rate, Enabled}
+use Rattle.scmi_text.specs.Fields.{first_agent, first_flag, first_message, first_named_fault, payload_left}
 use Rattle.scmi_text.specs.PackedStep.{step_with}
 use Rattle.scmi_text.specs.TextLines.{after_lines}
 use Rattle.scmi_text.specs.WordRow.{form_in}
 use Rattle.scmi_text.specs.declared.word_row.WordRow.{WordRow}
 use Rattle.scmi_text.specs.declared.packed_step.Head.{Head}
-use Rattle.scmi_text.specs.declared.packed_step.Head.TheVariants.{Do, Call, Raw, Malformed, Collect, P2a, Close, Platform, Advance, Fail, AdvanceFailed, Restart}
+use Rattle.scmi_text.specs.declared.packed_step.Head.TheVariants.{Do, Call, Raw, Malformed, Collect, P2a, Close, Platform, Advance, Fail, AdvanceFailed, Report, Restart}
 use Rattle.scmi_text.specs.declared.step.Step.{Step}
 use Rattle.scmi_text.specs.declared.step_form.AgentForm.{AgentForm}
 use Rattle.scmi_text.specs.declared.step_form.AgentForm.TheVariants as form
 use Rattle.scmi_text.specs.declared.step_form.CommandForm.{CommandForm}
 use Rattle.scmi_text.specs.declared.step_form.CommandForm.TheVariants as command
+use Rattle.scmi_text.specs.declared.step_form.ReportForm.{ReportForm}
+use Rattle.scmi_text.specs.declared.step_form.ReportForm.TheVariants as report
 use Rattle.scmi_text.specs.declared.step_form.StepForm.{StepForm}
 use Rattle.scmi_text.specs.declared.step_form.StepForm.TheVariants as step
-use Rattle.scmi_text.specs.declared.step_form.TheConstants.{FAILED, STEP_FORMS}
+use Rattle.scmi_text.specs.declared.step_form.TheConstants.{FAILED, REFUSED, REPORT_FORMS, STEP_FORMS}
 use Rattle.scmi_text.specs.declared.step_kinds.StepKinds.{StepKinds}
 use Rattle.scmi_text.specs.declared.step_kinds.StepKinds.TheVariants.{WithoutHardware, All}
 
--- a line beside hardware that refuses, or of a restart, is one of a script that may have such lines
+-- a line beside hardware, which refuses or reports, or of a restart, is one of a script that may have such lines
 abbrev pub with_hardware : StepKinds → Option (Unit {0})
 with_hardware WithoutHardware = None
 with_hardware All = Some tt
 
--- nothing more, or `failed` beside hardware
+-- `failed`, or `refused` and a status
+unfoldable pub first_refusal : ItemsView → Option (Fault × ItemsView)
+first_refusal view = do
+  word ← first_item view
+  if bytes_eq word.0 FAILED.now then Some (HardwareError, word.1)
+      else if bytes_eq word.0 REFUSED.now then first_named_fault word.1 else None
+
+-- nothing more, or how the hardware refuses
 unfoldable pub advance_head : StepKinds → ItemsView → Option (Head × ItemsView)
 advance_head kinds view = elim (no_item view) [
   | Some end ↦ Some (Advance, view)
   | None ↦ (do
     may ← with_hardware kinds
-    word ← first_item view
-    if bytes_eq word.0 FAILED.now then Some (AdvanceFailed, word.1) else None)
+    fault ← first_refusal view
+    Some (AdvanceFailed fault.0, fault.1))
 ]
 
--- P M of a command
+-- the change that hardware reports: D W, C LOW HIGH, or C B
+unfoldable pub first_effect : ReportForm → ItemsView → Option (Effect × ItemsView)
+first_effect report.State view = do
+  domain ← first_number 32 view
+  state ← first_number 32 domain.1
+  Some (State domain.0 state.0, state.1)
+first_effect report.Rate view = do
+  clock ← first_number 32 view
+  low ← first_number 32 clock.1
+  high ← first_number 32 low.1
+  Some (Rate clock.0 (rate_of low.0 high.0), high.1)
+first_effect report.Enabled view = do
+  clock ← first_number 32 view
+  enabled ← first_flag clock.1
+  Some (Enabled clock.0 enabled.0, enabled.1)
+
+-- the forms of what hardware reports, by the words after `report`
+abbrev pub report_forms : List (WordRow (List ℕ) ReportForm)
+report_forms = map (λ row. record { word = row.word.now; form = row.form }) REPORT_FORMS
+
+-- what follows `report`
+unfoldable pub report_head : StepKinds → ItemsView → Option (Head × ItemsView)
+report_head kinds view = do
+  may ← with_hardware kinds
+  word ← first_item view
+  form ← form_in word.0 report_forms
+  effect ← first_effect form word.1
+  Some (Report effect.0, effect.1)
+
+-- P M of a command whose changes the hardware refuses
+abbrev pub failing_head : Fault → ℕ → ItemsView → Option (Head × ItemsView)
+failing_head fault agent view = do
+  ids ← first_message view
+  Some (Fail agent fault ids.0.0 ids.0.1, ids.1)
+
+-- P M of a command, after a status where that is named
 unfoldable pub command_head : StepKinds → CommandForm → ℕ → ItemsView → Option (Head × ItemsView)
 command_head kinds command.Do agent view = do
   ids ← first_message view
@@ -46,10 +95,13 @@ command_head kinds command.Call agent view = do
   Some (Call agent ids.0.0 ids.0.1, ids.1)
 command_head kinds command.Fail agent view = do
   may ← with_hardware kinds
-  ids ← first_message view
-  Some (Fail agent ids.0.0 ids.0.1, ids.1)
+  failing_head HardwareError agent view
+command_head kinds command.Refuse agent view = do
+  may ← with_hardware kinds
+  fault ← first_named_fault view
+  failing_head fault.0 agent fault.1
 
--- what follows the agent: P M, H, LENGTH H, or nothing
+-- what follows the agent: P M, a status and P M, H, LENGTH H, or nothing
 unfoldable pub agent_head : StepKinds → AgentForm → ℕ → ItemsView → Option (Head × ItemsView)
 agent_head kinds (form.Command command) agent view = command_head kinds command agent view
 agent_head kinds form.Raw agent view = do
@@ -70,6 +122,7 @@ agent_head kinds form.Restart agent view = do
 -- what follows the first word
 unfoldable pub head_of : StepKinds → ℕ → StepForm → ItemsView → Option (Head × ItemsView)
 head_of kinds agents step.Advance view = advance_head kinds view
+head_of kinds agents step.Report view = report_head kinds view
 head_of kinds agents (step.Of form) view = do
   agent ← first_agent agents view
   agent_head kinds form agent.0 agent.1
@@ -90,7 +143,7 @@ abbrev pub has_payload : Head → Bool
 has_payload (Do agent protocol id) = true
 has_payload (Call agent protocol id) = true
 has_payload (Raw agent header) = true
-has_payload (Fail agent protocol id) = true
+has_payload (Fail agent fault protocol id) = true
 has_payload _ = false
 
 -- the payload words of a step with this head, or nothing where it has none

@@ -1,15 +1,15 @@
 //! What the lines of scripts have after their first word.
-ghost use Rattle.std.specs.Prelude.{◌≡◌, ◌≤◌, ◌+◌, drop, length, IfOk};
+ghost use Rattle.std.specs.Prelude.{◌≡◌, ◌≤◌, ◌+◌, drop, length, map, IfOk};
 ghost use Rattle.scmi_board.specs.Items.{items_left};
 ghost use Rattle.scmi_board.specs.LineError.{Gives, GivesUnless};
 ghost use Rattle.scmi_codec.specs.declared.payload.TheConstants.{PAYLOAD_WORDS};
 ghost use Rattle.scmi_plan.specs.Agent.{IsAgent};
-ghost use Rattle.scmi_text.specs.Fields.{first_agent, first_message, payload_left};
+ghost use Rattle.scmi_text.specs.Fields.{fault_in, first_agent, first_flag, first_message, first_named_fault, named, payload_left};
 ghost use Rattle.scmi_text.specs.PackedStep.{IsStartOf};
 
 use arrayvec::ArrayVec;
 use scmi_board::{Items, LineError};
-use scmi_codec::{PAYLOAD_WORDS, Payload};
+use scmi_codec::{Fault, PAYLOAD_WORDS, Payload, STATUSES, StatusRow};
 
 /// The next item as the number of an agent of a board that has this many, numbered from 1. `Form`
 /// if it is not such a number.
@@ -35,6 +35,43 @@ pub(crate) fn read_message(items: &mut Items<'_>) -> Result<(u8, u8), LineError>
     let protocol = items.next_byte()?;
     let message = items.next_byte()?;
     Ok((protocol, message))
+}
+
+/// The next item as the fault whose status has this name in DEN0056B. `Form` if no status has it,
+/// or only one that says nothing of the hardware.
+#[tactic(auto, unfolding(crate::specs::Fields::first_named_fault))]
+pub(crate) fn read_named_fault(items: &mut Items<'_>) -> Result<Fault, LineError>
+    ensures { Gives (λ fault. (fault, items_left items.new)) result
+        (first_named_fault (items_left items.old)) }
+{
+    let name = items.next_item()?;
+    fault_in(&STATUSES, name)
+}
+
+/// The fault of the first row of a name.
+fn fault_in(mut rows: &[StatusRow<&'static str>], name: &[u8]) -> Result<Fault, LineError>
+    ensures { Gives (λ fault. fault) result (fault_in name.now (map named rows.entry.now)) }
+{
+    while let [row, rest @ ..] = rows {
+        if row.name.as_bytes() == name {
+            return Fault::of_status(row.status).ok_or(LineError::Form);
+        }
+        rows = rest;
+    }
+    Err(LineError::Form)
+}
+
+/// The next item as a number that is 0 or 1.
+#[tactic(auto, unfolding(crate::specs::Fields::first_flag))]
+pub(crate) fn read_flag(items: &mut Items<'_>) -> Result<bool, LineError>
+    ensures { Gives (λ flag. (flag, items_left items.new)) result
+        (first_flag (items_left items.old)) }
+{
+    let number = items.next_word()?;
+    if number > 1 {
+        return Err(LineError::Form);
+    }
+    Ok(number == 1)
 }
 
 /// All items that are left, as payload words. `Form` if there are more than `PAYLOAD_WORDS`, or if

@@ -4,14 +4,16 @@ ghost use Rattle.scmi_board.specs.Items.{items_left};
 ghost use Rattle.scmi_board.specs.LineError.{Gives};
 ghost use Rattle.scmi_text.specs.PackedStep.{step_with};
 ghost use Rattle.scmi_text.specs.Step.{Allows, IsStepOf, step_agent};
-ghost use Rattle.scmi_text.specs.StepText.{advance_head, agent_head, command_head, first_head, head_of};
+ghost use Rattle.scmi_text.specs.StepText.{advance_head, agent_head, command_head, failing_head, first_head, first_refusal, head_of};
 
-use crate::fields::{read_agent, read_message};
+use crate::fields::{read_agent, read_message, read_named_fault};
 use crate::packed_step::Head;
-use crate::step_form::{AgentForm, CommandForm, FAILED, STEP_FORMS, StepForm};
+use crate::report::read_report;
+use crate::step_form::{AgentForm, CommandForm, FAILED, REFUSED, STEP_FORMS, StepForm};
 use crate::step_kinds::StepKinds;
 use crate::word_row::form_in;
 use scmi_board::{Items, LineError};
+use scmi_codec::Fault;
 
 /// What comes first in the line of a step of these kinds: all but its payload words.
 #[tactic(auto, unfolding(crate::specs::StepText::first_head))]
@@ -48,6 +50,7 @@ fn read_head_of(
 {
     match form {
         StepForm::Advance => read_advance(items, kinds),
+        StepForm::Report => read_report(items, kinds),
         StepForm::Of(form) => {
             let agent = read_agent(items, agents)?;
             read_agent_head(form, agent, items, kinds)
@@ -69,10 +72,24 @@ fn read_advance(items: &mut Items<'_>, kinds: StepKinds) -> Result<Head, LineErr
         return Ok(Head::Advance);
     }
     kinds.need_hardware()?;
-    if items.next_item()? != FAILED {
+    let fault = read_refusal(items)?;
+    Ok(Head::AdvanceFailed { fault })
+}
+
+/// `failed`, or `refused` and a status.
+#[tactic(auto, unfolding(crate::specs::StepText::first_refusal))]
+fn read_refusal(items: &mut Items<'_>) -> Result<Fault, LineError>
+    ensures { Gives (λ fault. (fault, items_left items.new)) result
+        (first_refusal (items_left items.old)) }
+{
+    let word = items.next_item()?;
+    if word == FAILED {
+        return Ok(Fault::HardwareError);
+    }
+    if word != REFUSED {
         return Err(LineError::Form);
     }
-    Ok(Head::AdvanceFailed)
+    read_named_fault(items)
 }
 
 /// What follows the agent.
@@ -116,7 +133,7 @@ fn read_agent_head(
     }
 }
 
-/// The protocol and the message id of a command.
+/// The protocol and the message id of a command, after a status if the form has one.
 #[tactic(auto, unfolding(crate::specs::StepText::command_head))]
 fn read_command(
     form: CommandForm,
@@ -150,12 +167,28 @@ fn read_command(
         }
         CommandForm::Fail => {
             kinds.need_hardware()?;
-            let (protocol, message) = read_message(items)?;
-            Ok(Head::Fail {
-                agent,
-                protocol,
-                message,
-            })
+            read_failing(Fault::HardwareError, agent, items)
+        }
+        CommandForm::Refuse => {
+            kinds.need_hardware()?;
+            let fault = read_named_fault(items)?;
+            read_failing(fault, agent, items)
         }
     }
+}
+
+/// The protocol and the message id of a command whose changes the hardware refuses.
+fn read_failing(fault: Fault, agent: u32, items: &mut Items<'_>) -> Result<Head, LineError>
+    ensures agent { IfOk result (λ head.
+        (words : List ℕ) → step_agent (step_with head words) ≡ Some agent) }
+    ensures head { Gives (λ head. (head, items_left items.new)) result
+        (failing_head fault agent (items_left items.old)) }
+{
+    let (protocol, message) = read_message(items)?;
+    Ok(Head::Fail {
+        agent,
+        fault,
+        protocol,
+        message,
+    })
 }

@@ -14,6 +14,7 @@ mod names;
 mod order_form;
 mod packed_step;
 mod received;
+mod report;
 mod script_line;
 mod script_list;
 mod scripts;

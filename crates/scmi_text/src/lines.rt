@@ -23,6 +23,8 @@ pub(crate) const ADVANCED: &str = "advance %\n";
 
 pub(crate) const ADVANCE_FAILED: &str = "advance failed %\n";
 
+pub(crate) const REPORTED: &str = "report %\n";
+
 pub(crate) const FLUSHED: &str = "flush % %\n";
 
 pub(crate) const P2A: &str = "% p2a%\n";

@@ -6,7 +6,8 @@ ghost use Rattle.scmi_text.specs.StepText.{has_payload};
 ghost use Rattle.scmi_text.specs.declared.step.Step.TheVariants.{Do};
 
 use crate::step::{AgentStep, Call, PlatformStep, Step};
-use scmi_codec::{Header, Message, payload_of, set_payload};
+use scmi_codec::{Fault, Header, Message, payload_of, set_payload};
+use scmi_plan::Effect;
 
 /// A step but for its payload words.
 #[derive(Clone, Copy)]
@@ -46,10 +47,16 @@ pub(crate) enum Head {
     Advance,
     Fail {
         agent: u32,
+        fault: Fault,
         protocol: u8,
         message: u8,
     },
-    AdvanceFailed,
+    AdvanceFailed {
+        fault: Fault,
+    },
+    Report {
+        effect: Effect,
+    },
     Restart {
         agent: u32,
     },
@@ -175,13 +182,15 @@ fn step_with(head: Head, payload: &[u32]) -> Step
         Head::Advance => Step::Advance,
         Head::Fail {
             agent,
+            fault,
             protocol,
             message,
-        } => Step::Fail {
-            agent,
-            call: call_with(protocol, message, payload),
-        },
-        Head::AdvanceFailed => Step::AdvanceFailed,
+        } => {
+            let call = call_with(protocol, message, payload);
+            Step::Fail { agent, fault, call }
+        }
+        Head::AdvanceFailed { fault } => Step::AdvanceFailed { fault },
+        Head::Report { effect } => Step::Report { effect },
         Head::Restart { agent } => Step::Restart { agent },
     }
 }

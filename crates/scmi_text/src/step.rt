@@ -1,23 +1,45 @@
 //! The lines of a script that runs on one thread.
-use scmi_codec::{Message, Payload};
+use scmi_codec::{Fault, Message, Payload};
+use scmi_plan::Effect;
 
 /// One line of a script: which call is made.
 #[derive(PartialEq, Eq, Debug, Drop)]
 pub enum Step {
     /// The agent makes this call.
-    Agent { agent: u32, step: AgentStep },
+    Agent {
+        agent: u32,
+        step: AgentStep,
+    },
     /// The platform makes this call, of the agent's channels.
-    Platform { agent: u32, step: PlatformStep },
+    Platform {
+        agent: u32,
+        step: PlatformStep,
+    },
     /// Call, serve and collect in turn.
-    Do { agent: u32, call: Call },
+    Do {
+        agent: u32,
+        call: Call,
+    },
     /// The platform completes one pending set.
     Advance,
-    /// Call, serve and collect in turn, beside hardware that refuses each change.
-    Fail { agent: u32, call: Call },
-    /// The platform ends one pending set, whose change the hardware refuses.
-    AdvanceFailed,
+    /// Call, serve and collect in turn, beside hardware that refuses each change for this reason.
+    Fail {
+        agent: u32,
+        fault: Fault,
+        call: Call,
+    },
+    /// The platform ends one pending set, whose change the hardware refuses for this reason.
+    AdvanceFailed {
+        fault: Fault,
+    },
+    /// The hardware changed by itself, and reports it to the platform.
+    Report {
+        effect: Effect,
+    },
     /// The platform ends what this agent asked for, which has restarted without it.
-    Restart { agent: u32 },
+    Restart {
+        agent: u32,
+    },
 }
 
 /// A call that an agent makes.

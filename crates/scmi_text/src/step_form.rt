@@ -6,6 +6,7 @@ use crate::word_row::{HeldRow, WordRow};
 #[derive(Clone, Copy)]
 pub(crate) enum StepForm {
     Advance,
+    Report,
     /// The agent's number follows the first word.
     Of(AgentForm),
 }
@@ -29,6 +30,15 @@ pub(crate) enum CommandForm {
     Do,
     Call,
     Fail,
+    Refuse,
+}
+
+/// The form of the line of a change that the hardware reports.
+#[derive(Clone, Copy)]
+pub(crate) enum ReportForm {
+    State,
+    Rate,
+    Enabled,
 }
 
 macro_rules! rows {
@@ -38,10 +48,11 @@ macro_rules! rows {
 }
 
 /// The first words of the lines of steps.
-pub(crate) const STEP_FORMS: [HeldRow<StepForm>; 13] = rows![
+pub(crate) const STEP_FORMS: [HeldRow<StepForm>; 15] = rows![
     b"do" StepForm::Of(AgentForm::Command(CommandForm::Do));
     b"call" StepForm::Of(AgentForm::Command(CommandForm::Call));
     b"fail" StepForm::Of(AgentForm::Command(CommandForm::Fail));
+    b"refuse" StepForm::Of(AgentForm::Command(CommandForm::Refuse));
     b"raw" StepForm::Of(AgentForm::Raw);
     b"bad" StepForm::Of(AgentForm::Malformed);
     b"collect" StepForm::Of(AgentForm::Collect);
@@ -52,7 +63,18 @@ pub(crate) const STEP_FORMS: [HeldRow<StepForm>; 13] = rows![
     b"shut" StepForm::Of(AgentForm::Platform(PlatformStep::Shut));
     b"restart" StepForm::Of(AgentForm::Restart);
     b"advance" StepForm::Advance;
+    b"report" StepForm::Report;
 ];
 
-/// The word after `advance`, if the hardware refuses.
+/// The word after `advance`, if the hardware refuses and no status is named.
 pub(crate) const FAILED: &[u8] = b"failed";
+
+/// The word after `advance` and before the status with which the hardware refuses.
+pub(crate) const REFUSED: &[u8] = b"refused";
+
+/// The words after `report`: what has changed.
+pub(crate) const REPORT_FORMS: [HeldRow<ReportForm>; 3] = rows![
+    b"state" ReportForm::State;
+    b"rate" ReportForm::Rate;
+    b"enabled" ReportForm::Enabled;
+];

@@ -13,7 +13,7 @@ pub(crate) enum StepKinds {
 }
 
 impl StepKinds {
-    /// `Form` if a script of these kinds has no step beside hardware that refuses, and no restart.
+    /// `Form` if a script of these kinds has no step beside hardware, and no restart.
     pub fn need_hardware(self) -> Result<(), LineError>
         ensures allowed { OnOk result (self ≡ StepKinds.All) }
         ensures hardware { Gives (λ _. tt) result (with_hardware self) }

@@ -4,8 +4,8 @@ ghost use Rattle.std.specs.Io.KnownBytes.{Appends};
 ghost use Rattle.scmi_text.specs.StepLine.{step_text};
 
 use crate::lines::{
-    ADVANCE_FAILED, ADVANCED, CLOSE, FLUSHED, NOT_POSTED, POSTED, RESTARTED, SERVED, SHUT, TOKEN,
-    TRACE,
+    ADVANCE_FAILED, ADVANCED, CLOSE, FLUSHED, NOT_POSTED, POSTED, REPORTED, RESTARTED, SERVED,
+    SHUT, TOKEN, TRACE,
 };
 use crate::names::{close_name, flushed_name, refusal_name, served_name, shut_name, yes_or_no};
 use crate::received::{write_collected, write_p2a};
@@ -53,6 +53,10 @@ pub enum StepLine {
     /// there was one.
     AdvanceFailed {
         more: bool,
+    },
+    /// The hardware reported a change of its own; `taken` is whether the platform took it over.
+    Reported {
+        taken: bool,
     },
     /// The platform was to post the first message of the agent's outbox.
     Flushed {
@@ -106,6 +110,7 @@ pub fn write_step_line<W: Write>(writer: &mut W, line: &StepLine) -> io::Result<
         StepLine::AdvanceFailed { more } => {
             write_filled(writer, ADVANCE_FAILED, &[Name(yes_or_no(*more))])
         }
+        StepLine::Reported { taken } => write_filled(writer, REPORTED, &[Name(yes_or_no(*taken))]),
         StepLine::Flushed { agent, flushed } => {
             write_agent_line(writer, FLUSHED, *agent, Name(flushed_name(*flushed)))
         }

@@ -34,8 +34,8 @@ pub fn read_steps(alloc: Global, lines: &mut Lines<'_>, agents: u32) -> Result<S
     read_steps_of(alloc, lines, agents, StepKinds::WithoutHardware)
 }
 
-/// The steps of all lines that are left, as `read_steps` gives them, and those beside hardware that
-/// refuses and restarts too (own).
+/// The steps of all lines that are left, as `read_steps` gives them, and those beside hardware,
+/// which refuses or reports, and restarts too (own).
 pub fn read_hardware_steps(
     alloc: Global,
     lines: &mut Lines<'_>,

@@ -17,10 +17,10 @@ use Rattle.scmi_ends.specs.ServeOn.{ServesOn}
 use Rattle.scmi_ends.specs.declared.link.Link.{Link}
 use Rattle.scmi_link.specs.View.{CallerView}
 use Rattle.scmi_plan.specs.Board.{Board}
-use Rattle.scmi_core.specs.Plain.{IsNoRestart, IsPlain}
-use Rattle.scmi_threads.specs.Rounds.{GoesOn}
+use Rattle.scmi_core.specs.Plain.{IsPlain}
+use Rattle.scmi_threads.specs.Rounds.{GoesOn, IsOfRounds}
 use Rattle.scmi_threads.proofs.Opened.{flushes_open, serves_on_open}
-use Rattle.scmi_threads.proofs.PlainLemmas.{advanced_no_restart, advanced_plain, served_no_restart}
+use Rattle.scmi_threads.proofs.PlainLemmas.{advanced_of_rounds, advanced_plain, served_of_rounds}
 
 -- what an outbox is flushed of changes nothing of the hardware
 flushed_made : (full : Bool) (board : Board) (a : ℕ) (h h' : List Event) (v w : CallerView) (r : Flushed) (asked : List Asked → Type 0) (before : List Asked) → FlushesOne full board a h v r h' w → HasMade before board h asked → HasMade before board h' asked
@@ -35,7 +35,7 @@ module _ {C Caller Callee Rest : Type 0} (refuses : Bool) (identity : C → List
     board = same ∙ so_far.board;
     open_ends = serves_on_open a c b r c' b' serves so_far.open_ends;
     made = λ before made. makes before (so_far.made before made);
-    no_restart = λ none. served_no_restart a c b r c' b' serves (so_far.no_restart none);
+    of_rounds = λ none. served_of_rounds a c b r c' b' serves (so_far.of_rounds none);
     plain = λ never none. served_plain a c r c' (obeyed never) (so_far.plain never none);
   }
 
@@ -48,7 +48,7 @@ module _ {C Caller Callee Rest : Type 0} (refuses : Bool) (identity : C → List
         board = so_far.board;
         open_ends = so_far.open_ends;
         made = λ before made. subst (λ v. HasMade before v.board v.history b') same (makes before (so_far.made before made));
-        no_restart = λ none. advanced_no_restart did c.board c.history c'.history b b' happens (λ not. ap (λ v. v.history) (still not)) (so_far.no_restart none);
+        of_rounds = λ none. advanced_of_rounds did c.board c.history c'.history b b' happens (λ not. ap (λ v. v.history) (still not)) (so_far.of_rounds none);
         plain = λ never none. advanced_plain did c.history c'.history (obeyed never) (λ not. ap (λ v. v.history) (still not)) (so_far.plain never none);
       } in
       subst (λ v. GoesOn refuses identity links old asked v b') (sym same) moved
@@ -59,7 +59,7 @@ module _ {C Caller Callee Rest : Type 0} (refuses : Bool) (identity : C → List
     board = same ∙ so_far.board;
     open_ends = flushes_open full a c c' r flushes so_far.open_ends;
     made = λ before made. subst (λ k. HasMade before k c'.history b) (sym same) (flushed_made full c.board a c.history c'.history flushes.step.collected flushes.caller r b before flushes.step.step (so_far.made before made));
-    no_restart = λ none. flushed_all IsNoRestart full a c r c' tt flushes (so_far.no_restart none);
+    of_rounds = λ none. flushed_all IsOfRounds full a c r c' tt flushes (so_far.of_rounds none);
     plain = λ never none. flushed_all IsPlain full a c r c' tt flushes (so_far.plain never none);
   }
 
@@ -71,7 +71,7 @@ module _ {C Caller Callee Rest : Type 0} (refuses : Bool) (identity : C → List
     board = more.board ∙ so_far.board;
     open_ends = more.open_ends;
     made = λ before made. more.made before (so_far.made before made);
-    no_restart = λ none. more.no_restart (so_far.no_restart none);
+    of_rounds = λ none. more.of_rounds (so_far.of_rounds none);
     plain = λ never none. more.plain never (so_far.plain never none);
   }
 

@@ -15,7 +15,8 @@ use Rattle.scmi_plan.specs.Board.{Board, channel_of}
 use Rattle.scmi_plan.specs.Plan.{IsValid}
 use Rattle.scmi_plan.specs.declared.agent_channel.TheConstants.{LEAST_CHANNEL_WORDS}
 use Rattle.scmi_core.specs.declared.event.Event.{Event}
-use Rattle.scmi_core.specs.declared.event.Event.TheVariants.{Command, Advance, Sent, CommandFailed, AdvanceFailed, Restarted}
+use Rattle.scmi_codec.specs.declared.fault.Fault.{Fault}
+use Rattle.scmi_core.specs.declared.event.Event.TheVariants.{Command, Advance, Sent, CommandFailed, AdvanceFailed, Restarted, Reported}
 use Rattle.scmi_core.specs.Deed.{fold_with_prefix}
 use Rattle.scmi_core.specs.History.{answer_to, scmi}
 use Rattle.scmi_core.specs.Agents.{frame_from, frames_of, answer_for, answers_to}
@@ -90,18 +91,19 @@ module _ (board : Board) (a : ℕ) (valid : IsValid board) where
   by_own true b (Malformed length header) before rest h = absurd (All-head IsGood (Malformed length header) rest h)
   by_own false b f before rest h = (tt, h)
 
-  by_failed : (own : Bool) (f : Frame) (rest : List Frame) → All IsGood (cons_option (if own then Some f else None) rest) → AllZip IsAnswerTo (with_frame (if own then Some f else None)) (if own then failed_answer f ∷ [] else []) × All IsGood rest
-  by_failed true (Good m) rest h = ((tt, tt), All-tail IsGood (Good m) rest h)
-  by_failed true (Malformed length header) rest h = absurd (All-head IsGood (Malformed length header) rest h)
-  by_failed false f rest h = (tt, h)
+  by_failed : (own : Bool) (f : Frame) (fault : Fault) (rest : List Frame) → All IsGood (cons_option (if own then Some f else None) rest) → AllZip IsAnswerTo (with_frame (if own then Some f else None)) (if own then failed_answer f fault ∷ [] else []) × All IsGood rest
+  by_failed true (Good m) fault rest h = ((tt, tt), All-tail IsGood (Good m) rest h)
+  by_failed true (Malformed length header) fault rest h = absurd (All-head IsGood (Malformed length header) rest h)
+  by_failed false f fault rest h = (tt, h)
 
   each : (before : List Event) (e : Event) (rest : List Frame) → All IsGood (cons_option (frame_from a e) rest) → AllZip IsAnswerTo (with_frame (frame_from a e)) (answer_for board a before e) × All IsGood rest
   each before (Command b f) rest h = by_own (a == b) b f before rest h
-  each before (CommandFailed b f) rest h = by_failed (a == b) f rest h
+  each before (CommandFailed b f fault) rest h = by_failed (a == b) f fault rest h
   each before Advance rest h = (tt, h)
-  each before AdvanceFailed rest h = (tt, h)
+  each before (AdvanceFailed fault) rest h = (tt, h)
   each before (Sent b) rest h = (tt, h)
   each before (Restarted b) rest h = (tt, h)
+  each before (Reported effect) rest h = (tt, h)
 
   from : (before : List Event) (frames : List Frame) (so_far : List Answer) (h : List Event) → AllZip IsAnswerTo frames so_far → All IsGood (filter_map (frame_from a) h) → AllZip IsAnswerTo (frames ++ filter_map (frame_from a) h) (fold_with_prefix (λ b xs e. xs ++ answer_for board a b e) before so_far h)
   unfolding fold_with_prefix

@@ -10,7 +10,7 @@ ghost use Rattle.scmi_script.specs.Scripts.{AreScriptsOf, orders_of};
 ghost use Rattle.scmi_ends.specs.Each.{AllFrom};
 ghost use Rattle.scmi_threads.specs.AfterClose.{EndsAtClose};
 ghost use Rattle.scmi_threads.specs.Logs.{LogHeadline};
-ghost use Rattle.scmi_core.specs.Plain.{IsNoRestart, IsPlain};
+ghost use Rattle.scmi_core.specs.Plain.{IsNoReport, IsNoRestart, IsPlain};
 ghost use Rattle.scmi_threads.specs.ScriptLogs.{IsGatedLog, IsScriptLog};
 
 use crate::both_sides::run_beside;
@@ -78,13 +78,13 @@ pub fn run_agents<C: Channel, G: Gate, R: Threads + Wait + Sync>(
 
 /// As `run_agents`, beside the hardware, which goes into the controller's thread and comes back
 /// (own). What a command or a completion changes of it is made first; if the hardware refuses that,
-/// the command has failed, and its answer is HARDWARE_ERROR at its place in the history, or the set
-/// ends as failed.
+/// the command has failed, and its answer is the status of the fault at its place in the history,
+/// or the set ends as failed with that fault.
 ///
-/// No agent is restarted, and beside hardware that never refuses no event is a failed one. Hardware
-/// that keeps a list was asked for exactly what belongs to the trace, in order, each change once,
-/// after what it was asked for before: it has made what the trace changes, and refused what failed.
-/// After an error it comes back as it was.
+/// No agent is restarted, the hardware reports nothing, and beside hardware that never refuses no
+/// event is a failed one. Hardware that keeps a list was asked for exactly what belongs to the
+/// trace, in order, each change once, after what it was asked for before: it has made what the
+/// trace changes, and refused what failed. After an error it comes back as it was.
 pub fn run_agents_on<C: Channel, G: Gate, H: Hardware + Send + Drop, R: Threads + Wait + Sync>(
     rt: &R,
     alloc: Global,
@@ -96,6 +96,7 @@ pub fn run_agents_on<C: Channel, G: Gate, H: Hardware + Send + Drop, R: Threads 
     requires scripts { AreScriptsOf (length plan.agents) scripts.now }
     ensures legal { IfOk result.0 (λ outcome. IsLegal plan outcome.trace.events) }
     ensures no_restart { IfOk result.0 (λ outcome. All IsNoRestart outcome.trace.events) }
+    ensures no_report { IfOk result.0 (λ outcome. All IsNoReport outcome.trace.events) }
     ensures plain { H.REFUSES ≡ false →
         IfOk result.0 (λ outcome. All IsPlain outcome.trace.events) }
     ensures bounds { IfOk result.0 (λ outcome. HasBounds plan (deeds plan outcome.trace.events)) }

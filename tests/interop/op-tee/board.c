@@ -13,6 +13,7 @@ enum { SET_DEVICE_PERMISSIONS = 0x04009, BOTH = 0, DENY = 0 };
 
 bool has_board = true, starts = true, makes = true, is_one_way = true, has_outbox, is_mapped = true, has_areas = true;
 unsigned int drives;
+int32_t refusal = SCMI_DENIED;
 struct change last;
 uint32_t areas[AGENTS][LINUX_BYTES / 4], outbox[LINUX_BYTES / 4];
 
@@ -78,7 +79,5 @@ int32_t scmi_service_drive(unsigned int agent __unused, const scmi_effect *effec
 {
     drives++;
     last = (struct change){ effect->kind, effect->id, effect->low, effect->high };
-    if (!is_locked || !makes)
-        return SCMI_DENIED;
-    return SCMI_SUCCESS;
+    return is_locked && makes ? SCMI_SUCCESS : refusal;
 }

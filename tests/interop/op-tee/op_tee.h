@@ -33,6 +33,8 @@ struct change {
 };
 extern bool has_board, starts, makes, is_one_way, has_outbox, is_mapped, has_areas;
 extern unsigned int drives;
+/* The status of hardware that refuses. */
+extern int32_t refusal;
 extern struct change last;
 extern uint32_t areas[AGENTS][LINUX_BYTES / 4], outbox[LINUX_BYTES / 4];
 /* Where the area of an agent is from now on, and how large. */

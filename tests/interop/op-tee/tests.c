@@ -15,7 +15,8 @@
 #include "scmi.h"
 #include "scmi_service.h"
 
-enum { STATUS = 1, LENGTH = 5, HEADER = 6, BUSY = 0, FREE = 1, CHANNEL_ERROR = 3, HARDWARE_ERROR = -9 };
+enum { STATUS = 1, LENGTH = 5, HEADER = 6, BUSY = 0, FREE = 1, CHANNEL_ERROR = 3 };
+enum { DENIED = -3, NOT_FOUND = -4, HARDWARE_ERROR = -9 };
 /* Of the buffers: the room for a reply to each agent, by its board, and what is in them before. */
 enum { LINUX_ROOM = 128, MODEM_ROOM = 36, PATTERN = 0x5a };
 /* How buffers are: two, or one for both ways, as Linux has it, and that one at an odd address. */
@@ -348,12 +349,15 @@ static void refused(void)
 {
     start();
     makes = false;
-    check_part("sets");
-    for (size_t i = 0; i < exchange_count; i++) {
-        const struct words reply = { 2, { exchanges[i].message.at[0], HARDWARE_ERROR } };
+    for (refusal = DENIED; refusal >= NOT_FOUND; refusal--) {
+        check_part(refusal == DENIED ? "sets" : "sets, with a status that says nothing of hardware");
+        for (size_t i = 0; i < exchange_count; i++) {
+            const int32_t status = refusal == DENIED ? DENIED : HARDWARE_ERROR;
+            const struct words reply = { 2, { exchanges[i].message.at[0], status } };
 
-        if (exchanges[i].change.kind != 0)
-            exchange(&exchanges[i], &reply);
+            if (exchanges[i].change.kind != 0)
+                exchange(&exchanges[i], &reply);
+        }
     }
     start_values("values are as they were");
     makes = true;

@@ -222,7 +222,7 @@ static void without_memory_there_is_no_platform(void)
         served += status == 0;
         check("served, or channel errors", status == 0 || (WIFEXITED(status) && WEXITSTATUS(status) == 3));
     }
-    check("channel errors, and then service", errors > 10 && served == 1);
+    check("channel errors, and then service", errors > 2 && served == 1);
 }
 
 static void a_board_of_larger_channels_is_not_served(void)
@@ -305,7 +305,7 @@ static void a_set_that_the_hardware_refuses_is_told_so(void)
     init();
     check("it is taken", set_rate(REMOTE, ASYNCHRONOUS, 100) == 0);
     makes = false;
-    check("told", scmi_service_poll() == 1 << REMOTE && has(RATE_SET_COMPLETE, (uint32_t)SCMI_HARDWARE_ERROR));
+    check("told", scmi_service_poll() == 1 << REMOTE && has(RATE_SET_COMPLETE, (uint32_t)SCMI_DENIED));
     check("and not made", rate_of(LOCAL) == 200 && rate == 200);
 }
 

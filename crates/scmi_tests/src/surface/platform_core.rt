@@ -1,8 +1,8 @@
 //! The surface of `scmi_core`.
 ghost use Rattle.std.specs.Prelude.{◌≡◌, true};
 
-use scmi_codec::{Answer, Frame, Message};
-use scmi_core::{Core, CoreError, Event, Trace};
+use scmi_codec::{Answer, Frame, Message, Status};
+use scmi_core::{Core, CoreError, Event, Fault, Trace};
 use scmi_plan::Plan;
 use std::alloc::Global;
 
@@ -16,6 +16,8 @@ fn name_the_calls() {
     let _: fn(Core) -> Trace = Core::into_trace;
     let _: fn(&Trace) -> usize = Trace::len;
     let _: fn(&Trace, usize) -> Option<Event> = Trace::get;
+    let _: fn(Fault) -> Status = Fault::status;
+    let _: fn(Status) -> Option<Fault> = Fault::of_status;
 }
 
 fn trace_of(core: &Core) -> &Trace {
@@ -28,10 +30,31 @@ fn agent_of(event: &Event) -> u32 {
         Event::Command(agent, _frame) => *agent,
         Event::Advance => 0,
         Event::Sent(agent) => *agent,
-        Event::CommandFailed(agent, _frame) => *agent,
-        Event::AdvanceFailed => 0,
+        Event::CommandFailed(agent, _frame, _fault) => *agent,
+        Event::AdvanceFailed(_fault) => 0,
         Event::Restarted(agent) => *agent,
+        Event::Reported(_effect) => 0,
     }
+}
+
+/// A fault is one of these, and nothing else.
+fn name_the_faults(fault: Fault) -> u32 {
+    match fault {
+        Fault::NotSupported => 0,
+        Fault::InvalidParameters => 1,
+        Fault::Denied => 2,
+        Fault::OutOfRange => 3,
+        Fault::Busy => 4,
+        Fault::GenericError => 5,
+        Fault::HardwareError => 6,
+    }
+}
+
+/// A fault is read back from its status.
+fn is_read_back(fault: Fault) -> bool
+    ensures { result ≡ true }
+{
+    Fault::of_status(fault.status()) == Some(fault)
 }
 
 /// Errors have the numbers of their order.
@@ -42,6 +65,8 @@ fn is_numbered(error: CoreError) -> bool
         CoreError::Memory => 1,
         CoreError::NoAgent => 2,
         CoreError::Nothing => 3,
+        CoreError::NoResource => 4,
+        CoreError::NoState => 5,
     };
     error as u8 == number
 }

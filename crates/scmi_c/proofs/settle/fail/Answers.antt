@@ -13,7 +13,8 @@ refuse-requires-clause-effect c =
 
 pub returns-clause-driven : goal.returns-clause-driven
 returns-clause-driven c =
-    some-and c.args.desk.now.asked (asked_of c.desk.inside.exchange.frame c.desk.inside.waiting) _ (search rules) (search rules)
+    some-and c.args.fault c.in-Some.fault _ (search rules)
+    (some-and c.args.desk.now.asked (asked_of c.desk.inside.exchange.frame c.desk.inside.waiting) _ (search rules) (search rules))
 
 pub returns-clause-said : goal.returns-clause-said
 returns-clause-said c =
@@ -21,9 +22,10 @@ returns-clause-said c =
     let waiting = c.desk.inside.waiting in
     let asked : Asked = asked_of frame waiting in
     let may = kept-of (IsAskable c.desk.inside.held) frame waiting (search rules) c.desk.invariant in
-    some-and c.args.desk.now.asked asked _ (search rules)
+    some-and c.args.fault c.in-Some.fault _ (search rules)
+    (some-and c.args.desk.now.asked asked _ (search rules)
     (record {
       effect = c.effect_of-effect.result;
       numbers = effect-numbers c.desk.inside.held asked c.effect_of-effect.result may c.effect_of-effect.ensures;
       said = search rules;
-    })
+    }))

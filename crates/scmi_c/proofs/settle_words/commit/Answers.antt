@@ -1,10 +1,11 @@
 use Rattle.std.proofs.Common.{rules, ◌≡◌, ◌≤◌, ◌+◌, length, refl, subst, ap, arith}
 use Rattle.scmi_codec.specs.ChannelArea.{channel_words}
 use Rattle.scmi_codec.specs.Header.{header_word}
+use Rattle.scmi_core.specs.declared.event.Event.TheVariants.{Command as Called}
 use Rattle.scmi_c.specs.Kept.{Asked, IsAskable, Kept, asked_of}
 use Rattle.scmi_c.specs.Standing.{Held, board_of}
 use Rattle.scmi_c.proofs.Answering.{some-and}
-use Rattle.scmi_c.proofs.Keeping.{effect-is, effect-numbers, effect-some, kept-of}
+use Rattle.scmi_c.proofs.Keeping.{effect-is, effect-numbers, effect-some, kept-of, rate-clock}
 use Rattle.scmi_c.proofs.WordReplies.{asked-replied, written-answer}
 use Rattle.scmi_c.proofs.settle_words.commit.Goals as goal
 
@@ -56,3 +57,13 @@ returns-clause-said c =
       numbers = effect-numbers c.desk.inside.held asked c.effect_of-effect.result may c.effect_of-effect.ensures;
       said = search rules;
     })
+
+pub returns-clause-clock : goal.returns-clause-clock
+returns-clause-clock c =
+    let frame = c.desk.inside.exchange.frame in
+    let waiting = c.desk.inside.waiting in
+    let asked : Asked = asked_of frame waiting in
+    let may = kept-of (IsAskable c.desk.inside.held) frame waiting (search rules) c.desk.invariant in
+    some-and c.args.desk.now.asked asked _ (search rules)
+    (rate-clock c.desk.inside.held _ asked (Called waiting.agent frame) c.effect_of-effect.result may c.effect_of-effect.ensures
+    c.commit.ensures.clock c.commit.ensures.event)

@@ -24,15 +24,17 @@ returns-clause-ok c =
     let asked : Asked = asked_of frame waiting in
     let may = kept-of (IsAskable c.desk.inside.held) frame waiting (search rules) c.desk.invariant in
     let wide : 1 + channel_words waiting.bytes ≤ length c.args.reply.now = search rules in
-    some-and c.args.desk.now.asked asked _ (search rules)
+    some-and c.args.fault c.in-Some.fault _ (search rules)
+    (some-and c.args.desk.now.asked asked _ (search rules)
     (record {
-      answer = failed-written frame c.refuse.new.reply c.put_message.result c.args.reply.now c.put_message.new.words (search rules) (some-room waiting.bytes (length c.args.reply.now) may.size wide) c.put_message.ensures.count c.put_message.ensures.written;
+      answer = failed-written frame c.in-Some.fault c.refuse.new.reply c.put_message.result c.args.reply.now c.put_message.new.words (search rules) (some-room waiting.bytes (length c.args.reply.now) may.size wide) c.put_message.ensures.count c.put_message.ensures.written;
       event = search rules;
-    })
+    }))
 
 pub returns-clause-driven : goal.returns-clause-driven
 returns-clause-driven c =
-    some-and c.args.desk.now.asked (asked_of c.desk.inside.exchange.frame c.desk.inside.waiting) _ (search rules) (search rules)
+    some-and c.args.fault c.in-Some.fault _ (search rules)
+    (some-and c.args.desk.now.asked (asked_of c.desk.inside.exchange.frame c.desk.inside.waiting) _ (search rules) (search rules))
 
 pub returns-clause-said : goal.returns-clause-said
 returns-clause-said c =
@@ -40,9 +42,10 @@ returns-clause-said c =
     let waiting = c.desk.inside.waiting in
     let asked : Asked = asked_of frame waiting in
     let may = kept-of (IsAskable c.desk.inside.held) frame waiting (search rules) c.desk.invariant in
-    some-and c.args.desk.now.asked asked _ (search rules)
+    some-and c.args.fault c.in-Some.fault _ (search rules)
+    (some-and c.args.desk.now.asked asked _ (search rules)
     (record {
       effect = c.effect_of-effect.result;
       numbers = effect-numbers c.desk.inside.held asked c.effect_of-effect.result may c.effect_of-effect.ensures;
       said = search rules;
-    })
+    }))

@@ -13,18 +13,18 @@ set_agents-requires-clause-rows c =
     let P : ℕ → Type 0 = λ n. All (λ row. is_said_row n row ≡ true) t.agents in
     subst P (sym devices) (agents_said t c.requires.formed)
 
-pub keep_domains-requires : goal.keep_domains-requires
-keep_domains-requires c =
+pub set_domains-requires : goal.set_domains-requires
+set_domains-requires c =
     let t = tables_of c.args.tables.now in
     let alike = rows_said c.args.plan.now c.set_agents.new.plan (lines_from agent_lines 1 t.agents) c.set_agents.ensures.lines in
     let domains : length c.args.plan.now.domains ≡ length t.domains = ap (λ (b : Board). length b.domains) c.requires.board ∙ length-map t.domains domain_in in
     record { domains = sym (alike.domains ∙ domains) }
 
-pub keep_clocks-requires : goal.keep_clocks-requires
-keep_clocks-requires c =
+pub set_clocks-requires : goal.set_clocks-requires
+set_clocks-requires c =
     let t = tables_of c.args.tables.now in
     let agents = rows_said c.args.plan.now c.set_agents.new.plan (lines_from agent_lines 1 t.agents) c.set_agents.ensures.lines in
-    let kept = rows_said c.set_agents.new.plan c.keep_domains.new.plan (lines_from domain_lines 0 t.domains) c.keep_domains.ensures.lines in
+    let kept = rows_said c.set_agents.new.plan c.set_domains.new.plan (lines_from domain_lines 0 t.domains) c.set_domains.ensures.lines in
     let clocks : length c.args.plan.now.clocks ≡ length t.clocks =
     ap (λ (b : Board). length b.clocks) c.requires.board ∙ length-map t.clocks (clock_in t.rates) in
     record { clocks = sym (kept.clocks ∙ agents.clocks ∙ clocks) }

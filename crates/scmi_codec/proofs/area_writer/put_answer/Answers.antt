@@ -1,4 +1,4 @@
-use Rattle.std.proofs.Common.{◌∙◌, arith}
+use Rattle.std.proofs.Common.{arith}
 use Rattle.scmi_codec.proofs.AreaLemmas.{StandsWithin-status}
 use Rattle.scmi_codec.proofs.area_writer.put_answer.Goals as goal
 
@@ -10,9 +10,4 @@ returns-in-Released-clause-stands c =
     (λ words few. StandsWithin-status words c.args.area.now 1 (omega arith) (omega arith))
 
 pub returns-in-ChannelError-clause-stands : goal.returns-in-ChannelError-clause-stands
-returns-in-ChannelError-clause-stands c =
-    let room = rw c.in-ChannelError.is at c.requires.room in
-    let fields = room (omega arith) in
-    let bits = c.bits-in-ChannelError.ensures tt ∙ c.union-status.ensures tt in
-    rw (c.in-ChannelError.is, c.write_word-in-ChannelError.ensures, bits)
-    (λ words few. StandsWithin-status words c.args.area.now 3 (omega arith) (omega arith))
+returns-in-ChannelError-clause-stands c = rw c.in-ChannelError.is (λ words few. c.put_error.ensures.stands words)

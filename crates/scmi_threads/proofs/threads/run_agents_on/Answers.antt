@@ -4,18 +4,20 @@ use Rattle.std.proofs.lemmas.Slice.Zip.{AllZip-long}
 use Rattle.scmi_threads.specs.Logs.{IsLogOf}
 use Rattle.scmi_threads.specs.ScriptRuns.{HasPlayed}
 use Rattle.std.specs.List.{All}
+use Rattle.std.proofs.lemmas.List.Elements.{All-weaker}
 use Rattle.scmi_plan.specs.Plan.{IsValid}
 use Rattle.scmi_script.specs.Scripts.{orders_of}
 use Rattle.scmi_ends.specs.Each.{AllFrom}
 use Rattle.scmi_ends.specs.Links.{identities_of_a2p, identities_of_p2a}
 use Rattle.scmi_threads.specs.Orders.{IsUndisturbed}
-use Rattle.scmi_core.specs.Plain.{IsNoRestart, IsPlain}
+use Rattle.scmi_core.specs.Plain.{IsNoReport, IsNoRestart, IsPlain}
+use Rattle.scmi_threads.specs.Rounds.{IsOfRounds}
 use Rattle.scmi_threads.specs.ScriptLogs.{IsGatedLog, IsScriptLog}
 use Rattle.scmi_threads.specs.declared.agent_log.AgentLog.{AgentLog}
 use Rattle.scmi_threads.proofs.AfterCloseLemmas.{all_end_at_close}
 use Rattle.scmi_threads.proofs.Started.{all_follow, all_gated}
 use Rattle.scmi_threads.proofs.Moves.{zip_maps}
-use Rattle.scmi_threads.proofs.PlainLemmas.{all_of_run}
+use Rattle.scmi_threads.proofs.PlainLemmas.{all_of_run, unreported, unrestarted}
 use Rattle.scmi_threads.proofs.RoundLemmas.{made_of_run}
 use Rattle.scmi_threads.proofs.threads.run_agents_on.Goals as goal
 use Rattle.scmi_threads.proofs.threads.run_agents_on.Goals.{After-conclude, After-end_runs-ends}
@@ -78,8 +80,14 @@ pub returns-clause-made : goal.returns-clause-made
 returns-clause-made g c = made_of_run c.args.plan c.in-Ok.controller.board c.run_beside-controller.result.0.0.board c.in-Ok.controller.history c.run_beside-controller.result.0.0.history c.conclude.result.trace.events (g.H.Hardware.asked c.args.hardware) (g.H.Hardware.asked c.run_beside-controller.result.0.2)
     (c.in-Ok.ensures.controller.0 ∙ c.new-core.ensures.board) c.in-Ok.ensures.controller.1 c.run_beside-controller.ensures.goes_on.board c.conclude.ensures.history c.run_beside-controller.ensures.goes_on.made
 
+of_rounds : (g : _) (c : After-conclude g) → All IsOfRounds c.conclude.result.trace.events
+of_rounds g c = all_of_run IsOfRounds c.in-Ok.controller.history c.run_beside-controller.result.0.0.history c.conclude.result.trace.events c.in-Ok.ensures.controller.1 c.conclude.ensures.history c.run_beside-controller.ensures.goes_on.of_rounds
+
 pub returns-clause-no_restart : goal.returns-clause-no_restart
-returns-clause-no_restart g c = all_of_run IsNoRestart c.in-Ok.controller.history c.run_beside-controller.result.0.0.history c.conclude.result.trace.events c.in-Ok.ensures.controller.1 c.conclude.ensures.history c.run_beside-controller.ensures.goes_on.no_restart
+returns-clause-no_restart g c = All-weaker IsOfRounds IsNoRestart unrestarted c.conclude.result.trace.events (of_rounds g (goal.at.returns-clause-no_restart g c).After-conclude)
+
+pub returns-clause-no_report : goal.returns-clause-no_report
+returns-clause-no_report g c = All-weaker IsOfRounds IsNoReport unreported c.conclude.result.trace.events (of_rounds g (goal.at.returns-clause-no_report g c).After-conclude)
 
 pub returns-clause-plain : goal.returns-clause-plain
 returns-clause-plain g c = λ never. all_of_run IsPlain c.in-Ok.controller.history c.run_beside-controller.result.0.0.history c.conclude.result.trace.events c.in-Ok.ensures.controller.1 c.conclude.ensures.history (c.run_beside-controller.ensures.goes_on.plain never)

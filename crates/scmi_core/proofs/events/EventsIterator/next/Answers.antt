@@ -1,4 +1,4 @@
-use Rattle.std.proofs.Common.{rules, ◌≤◌, ap, sym, subst, ◌∙◌, arith}
+use Rattle.std.proofs.Common.{rules, ◌≤◌, refl, ap, sym, subst, ◌∙◌, arith}
 use Rattle.scmi_core.specs.Trace.{AreEvents, events_of}
 use Rattle.scmi_core.proofs.Traces.{AreEvents-length, AreEvents-rest, events_of-first, events_of-none, first-within}
 use Rattle.scmi_core.proofs.events.EventsIterator.next.Goals as goal
@@ -21,13 +21,16 @@ split_at-requires c =
     rw (c.payload_count.ensures, c.unpack-mark.ensures)
     (first-within c.self.inside.count t.0 t.1 t.2 t.3.now some (subst (AreEvents c.self.inside.count) c.three_words-first.ensures c.self.invariant)).1
 
-pub event_of-requires : goal.event_of-requires
-event_of-requires c =
+pub event_of-requires-clause-few : goal.event_of-requires-clause-few
+event_of-requires-clause-few c =
     let t = c.three_words-first.result in
     let none = c.if-self-eq0.false in
     let some : 1 ≤ c.self.inside.count = omega (arith, none) in
     rw (c.split_at.ensures.front_len, c.payload_count.ensures, c.unpack-mark.ensures)
     (first-within c.self.inside.count t.0 t.1 t.2 t.3.now some (subst (AreEvents c.self.inside.count) c.three_words-first.ensures c.self.invariant)).0
+
+pub event_of-requires-clause-count : goal.event_of-requires-clause-count
+event_of-requires-clause-count c = rw (c.split_at.ensures.front_len, c.payload_count.ensures, c.unpack-mark.ensures) refl
 
 pub invariant_of-self : goal.invariant_of-self
 invariant_of-self c =

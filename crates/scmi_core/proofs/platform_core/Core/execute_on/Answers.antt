@@ -25,40 +25,40 @@ returns-in_default-clause-made g c = λ before made.
     (made-on c.args.self.now.board (IsCommandOf c.args.agent c.args.frame.now) c.args.self.now.history c.execute.new.self.history
     (g.H.Hardware.asked c.args.hardware.now) (g.H.Hardware.asked c.args.hardware.now) before (returns-in_default-clause-executes g c).happens made)
 
-pub returns-then-make-clause-executes : goal.returns-then-make-clause-executes
-returns-then-make-clause-executes g c = record {
+pub returns-in-Ok-clause-executes : goal.returns-in-Ok-clause-executes
+returns-in-Ok-clause-executes g c = record {
   happens = record {
     event = Called c.args.agent c.args.frame.now;
     is_one = inl refl;
     history = c.commit.ensures.event;
     hardware =
         subst (λ effect. IsAsked (g.H.Hardware.asked c.args.hardware.now) (option_map Made effect) (g.H.Hardware.asked c.make.new.hardware))
-        (sym c.in-Some.is ∙ c.effect_in.ensures.effect c.self.inside.trace.events c.self.invariant ∙ ap (λ p. effect_after p.board p.history (Called c.args.agent c.args.frame.now)) c.self.view_is) (c.make.ensures.made c.if-make.true);
+        (sym c.in-Some.is ∙ c.effect_in.ensures.effect c.self.inside.trace.events c.self.invariant ∙ ap (λ p. effect_after p.board p.history (Called c.args.agent c.args.frame.now)) c.self.view_is) c.in-Ok.ensures.made;
   };
   answer = ap Some (sym c.commit.ensures.answer);
 }
 
-pub returns-then-make-clause-made : goal.returns-then-make-clause-made
-returns-then-make-clause-made g c = λ before made.
+pub returns-in-Ok-clause-made : goal.returns-in-Ok-clause-made
+returns-in-Ok-clause-made g c = λ before made.
     subst (λ board. HasMade before board c.commit.new.self.history (g.H.Hardware.asked c.make.new.hardware)) (sym c.commit.ensures.board)
     (made-on c.args.self.now.board (IsCommandOf c.args.agent c.args.frame.now) c.args.self.now.history c.commit.new.self.history
-    (g.H.Hardware.asked c.args.hardware.now) (g.H.Hardware.asked c.make.new.hardware) before (returns-then-make-clause-executes g c).happens made)
+    (g.H.Hardware.asked c.args.hardware.now) (g.H.Hardware.asked c.make.new.hardware) before (returns-in-Ok-clause-executes g c).happens made)
 
-pub returns-else-make-clause-executes : goal.returns-else-make-clause-executes
-returns-else-make-clause-executes g c = record {
+pub returns-in-Err-clause-executes : goal.returns-in-Err-clause-executes
+returns-in-Err-clause-executes g c = record {
   happens = record {
-    event = CommandFailed c.args.agent c.args.frame.now;
-    is_one = inr refl;
+    event = CommandFailed c.args.agent c.args.frame.now c.in-Err.fault;
+    is_one = inr (c.in-Err.fault, refl);
     history = c.fail_command.ensures.event;
     hardware =
-        subst (λ effect. IsAsked (g.H.Hardware.asked c.args.hardware.now) (option_map Refused effect) (g.H.Hardware.asked c.make.new.hardware))
-        (sym c.in-Some.is ∙ c.effect_in.ensures.effect c.self.inside.trace.events c.self.invariant ∙ ap (λ p. effect_after p.board p.history (Called c.args.agent c.args.frame.now)) c.self.view_is) (c.make.ensures.refused c.if-make.false);
+        subst (λ effect. IsAsked (g.H.Hardware.asked c.args.hardware.now) (option_map (λ asked. Refused asked c.in-Err.fault) effect) (g.H.Hardware.asked c.make.new.hardware))
+        (sym c.in-Some.is ∙ c.effect_in.ensures.effect c.self.inside.trace.events c.self.invariant ∙ ap (λ p. effect_after p.board p.history (Called c.args.agent c.args.frame.now)) c.self.view_is) c.in-Err.ensures.refused;
   };
   answer = ap Some (sym c.fail_command.ensures.answer);
 }
 
-pub returns-else-make-clause-made : goal.returns-else-make-clause-made
-returns-else-make-clause-made g c = λ before made.
+pub returns-in-Err-clause-made : goal.returns-in-Err-clause-made
+returns-in-Err-clause-made g c = λ before made.
     subst (λ board. HasMade before board c.fail_command.new.self.history (g.H.Hardware.asked c.make.new.hardware)) (sym c.fail_command.ensures.board)
     (made-on c.args.self.now.board (IsCommandOf c.args.agent c.args.frame.now) c.args.self.now.history c.fail_command.new.self.history
-    (g.H.Hardware.asked c.args.hardware.now) (g.H.Hardware.asked c.make.new.hardware) before (returns-else-make-clause-executes g c).happens made)
+    (g.H.Hardware.asked c.args.hardware.now) (g.H.Hardware.asked c.make.new.hardware) before (returns-in-Err-clause-executes g c).happens made)

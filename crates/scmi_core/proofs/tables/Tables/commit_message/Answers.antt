@@ -1,7 +1,7 @@
 use Rattle.std.proofs.Common.{◌<◌, length, Some, refl, sym, ap, ◌∙◌, arith}
 use Rattle.scmi_codec.specs.Command.{command_of}
 use Rattle.scmi_codec.specs.declared.frame.Answer.TheVariants.{Reply}
-use Rattle.scmi_core.specs.declared.effect.Effect.TheVariants as effect
+use Rattle.scmi_plan.specs.declared.effect.Effect.TheVariants as effect
 use Rattle.scmi_core.specs.Outbox.{message_with}
 use Rattle.scmi_core.specs.Tables.{situation_in}
 use Rattle.scmi_core.proofs.Commits.{answer-fits, effect-fits, state-set, rate-set, config-set, state-committed, rate-committed, enabled-committed}

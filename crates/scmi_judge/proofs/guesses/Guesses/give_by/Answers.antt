@@ -12,10 +12,10 @@ returns-clause-given c =
       | else-show-via-then-show+else-not-has w ↦
           let has : w.has.result ≡ true = search rules in
           given-again c.args.self.now.unseen c.args.guess c.copy_from.new.self c.show.new.self c.args.entry.now c.args.self.now.left.items c.copy_from.ensures
-          (c.show.ensures.gives w.if-show.true c.args.self.now.unseen) (subst (IsIn c.show.new.self) w.deref.ensures.value (w.has.ensures.0 has))
+          (c.show.ensures.gives w.if-show.true) (subst (IsIn c.show.new.self) w.deref.ensures.value (w.has.ensures.0 has))
       | else-show-via-else-show w ↦
           given-nothing c.args.self.now.unseen c.args.guess c.copy_from.new.self c.args.entry.now c.args.self.now.left.items c.copy_from.ensures
-          (c.show.ensures.not w.if-show.false c.args.self.now.unseen)
+          (c.show.ensures.not w.if-show.false)
     ]
 
 pub returns-then-not-has-clause-different : goal.returns-then-not-has-clause-different
