@@ -71,6 +71,24 @@ static inline void scmi_shared_store(const scmi_mailbox *box, uint32_t at, uint3
     __atomic_store_n(&box->words[at], word, __ATOMIC_RELAXED);
 }
 
+/* Copies the header word of a channel and what is behind it, each word once. */
+static inline void scmi_shared_read(const scmi_mailbox *box, uint32_t *to, uint32_t count)
+{
+    scmi_shared_word *from = box->words + SCMI_AT_HEADER, *end = from + count;
+
+    while (from != end)
+        *to++ = __atomic_load_n(from++, __ATOMIC_RELAXED);
+}
+
+/* The same in the other direction. */
+static inline void scmi_shared_write(const scmi_mailbox *box, const uint32_t *from, uint32_t count)
+{
+    scmi_shared_word *to = box->words + SCMI_AT_HEADER, *end = to + count;
+
+    while (to != end)
+        __atomic_store_n(to++, *from++, __ATOMIC_RELAXED);
+}
+
 /* Later reads see what the other side wrote before it handed over. */
 static inline uint32_t scmi_shared_status(const scmi_mailbox *box)
 {
@@ -97,7 +115,7 @@ static inline int scmi_length_fits(uint32_t length, uint32_t payload_words)
  */
 static inline uint32_t scmi_mailbox_copy(const scmi_mailbox *box, uint32_t status, scmi_area *area)
 {
-    uint32_t length = scmi_shared_load(box, SCMI_AT_LENGTH), i;
+    uint32_t length = scmi_shared_load(box, SCMI_AT_LENGTH);
 
     area->status = status;
     area->flags = scmi_shared_load(box, SCMI_AT_FLAGS);
@@ -107,21 +125,15 @@ static inline uint32_t scmi_mailbox_copy(const scmi_mailbox *box, uint32_t statu
         return SCMI_MAILBOX_LENGTH;
     }
     area->length = length;
-    area->header = scmi_shared_load(box, SCMI_AT_HEADER);
-    for (i = 0; i < length / 4 - 1; i++)
-        area->payload[i] = scmi_shared_load(box, SCMI_AT_PAYLOAD + i);
+    scmi_shared_read(box, &area->header, length / 4);
     return SCMI_DONE;
 }
 
 /* Writes length, header and payload of a copy whose length fits, and then hands over. */
 static inline void scmi_mailbox_write(const scmi_mailbox *box, const scmi_area *area, uint32_t status)
 {
-    uint32_t i;
-
     scmi_shared_store(box, SCMI_AT_LENGTH, area->length);
-    scmi_shared_store(box, SCMI_AT_HEADER, area->header);
-    for (i = 0; i < area->length / 4 - 1; i++)
-        scmi_shared_store(box, SCMI_AT_PAYLOAD + i, area->payload[i]);
+    scmi_shared_write(box, &area->header, area->length / 4);
     scmi_shared_hand_over(box, status);
 }
 
@@ -189,6 +201,52 @@ static inline uint32_t scmi_mailbox_answer(const scmi_mailbox *box, const scmi_a
         return SCMI_MAILBOX_LENGTH;
     }
     scmi_mailbox_write(box, area, SCMI_MAILBOX_FREE);
+    return SCMI_DONE;
+}
+
+/*
+ * A message of a channel, and the reply to it, as the calls in words of scmi.h take and give them. With these a command
+ * takes fewer instructions than as an area.
+ */
+typedef struct scmi_words {
+    uint32_t count; /* of the message: the header word and the payload; 0 for a malformed frame */
+    uint32_t given; /* of the reply; 0 where there is none */
+    uint32_t message[SCMI_MESSAGE_WORDS];
+    uint32_t reply[SCMI_MESSAGE_WORDS];
+} scmi_words;
+
+/*
+ * As scmi_mailbox_take, for scmi_ask_words or scmi_answer_words; there is no reply yet. SCMI_DONE, also for a malformed
+ * frame, which they refuse by SCMI_WRONG_SIZE; SCMI_NOTHING if the channel is free, and then the copy is as it was.
+ */
+static inline uint32_t scmi_mailbox_take_words(const scmi_mailbox *box, scmi_words *words)
+{
+    uint32_t length;
+
+    if (scmi_mailbox_is_free(box))
+        return SCMI_NOTHING;
+    length = scmi_shared_load(box, SCMI_AT_LENGTH);
+    words->count = scmi_length_fits(length, box->payload_words) ? length / 4 : 0;
+    words->given = 0;
+    scmi_shared_read(box, words->message, words->count);
+    return SCMI_DONE;
+}
+
+/*
+ * Writes the reply into its channel, which is then free. SCMI_DONE; SCMI_MAILBOX_LENGTH if there is none, or the channel
+ * has fewer words, and then the agent gets a channel error.
+ */
+static inline uint32_t scmi_mailbox_answer_words(const scmi_mailbox *box, const scmi_words *words)
+{
+    uint32_t given = words->given;
+
+    if (given == 0 || given - 1 > box->payload_words) {
+        scmi_shared_hand_over(box, SCMI_MAILBOX_FREE_ERROR);
+        return SCMI_MAILBOX_LENGTH;
+    }
+    scmi_shared_store(box, SCMI_AT_LENGTH, 4 * given);
+    scmi_shared_write(box, words->reply, given);
+    scmi_shared_hand_over(box, SCMI_MAILBOX_FREE);
     return SCMI_DONE;
 }
 

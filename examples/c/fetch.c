@@ -141,6 +141,14 @@ __attribute__((noinline)) static uint32_t answer(const scmi_mailbox *box, const 
 {
     return scmi_mailbox_answer(box, area);
 }
+__attribute__((noinline)) static uint32_t take_words(const scmi_mailbox *box, scmi_words *copy)
+{
+    return scmi_mailbox_take_words(box, copy);
+}
+__attribute__((noinline)) static uint32_t answer_words(const scmi_mailbox *box, const scmi_words *copy)
+{
+    return scmi_mailbox_answer_words(box, copy);
+}
 __attribute__((noinline)) static uint32_t serve(const scmi_mailbox *box, scmi_platform *platform)
 {
     return scmi_mailbox_serve(box, platform, 1);
@@ -184,8 +192,14 @@ static void leave(uint32_t status, uint32_t length, uint32_t header)
 static int watch(const scmi_mailbox *box, scmi_platform *platform, uint32_t length, unsigned words)
 {
     scmi_area area = { { 0 } };
+    scmi_words copy = { 0 };
     int bad = 0;
 
+    leave(0, length, 0x00005004);
+    WATCH(take_words(box, &copy), words);
+    copy.given = copy.count;
+    leave(0, 4, 0);
+    WATCH(answer_words(box, &copy), words);
     leave(0, length, 0x00005004); /* CLOCK_DESCRIBE_RATES, of 20 rates */
     WATCH(take(box, &area), words);
     leave(0, length, 0x00005004);

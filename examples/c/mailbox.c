@@ -320,6 +320,26 @@ struct counts {
     uint32_t answers[AGENTS + 1], messages[AGENTS + 1];
 };
 
+/* As scmi_mailbox_serve, in words. A malformed frame is answered, and is not an event. */
+static uint32_t serve_words(scmi_platform *platform, uint32_t agent, struct counts *n)
+{
+    scmi_words copy;
+    uint32_t given;
+
+    if (scmi_mailbox_take_words(&a2p[agent], &copy) != SCMI_DONE)
+        return SCMI_NOTHING;
+    given = scmi_answer_words(platform, agent, copy.message, copy.count, copy.reply, SCMI_MESSAGE_WORDS, &copy.given);
+    need(given == (copy.count > 0 ? SCMI_DONE : SCMI_WRONG_SIZE), "words are not executed", agent, given);
+    n->events -= copy.count == 0;
+    return scmi_mailbox_answer_words(&a2p[agent], &copy);
+}
+
+/* By areas and by words in turn. */
+static uint32_t serve(scmi_platform *platform, uint32_t agent, struct counts *n)
+{
+    return n->answers[agent] % 2 ? serve_words(platform, agent, n) : scmi_mailbox_serve(&a2p[agent], platform, agent);
+}
+
 static void look_round(scmi_platform *platform, struct counts *n)
 {
     for (uint32_t agent = 1; agent <= AGENTS; agent++) {
@@ -327,7 +347,7 @@ static void look_round(scmi_platform *platform, struct counts *n)
 
         if (agent != BAD)
             beside[agent].answered[number] = number + 1;
-        given = scmi_mailbox_serve(&a2p[agent], platform, agent);
+        given = serve(platform, agent, n);
         need(given == SCMI_DONE || given == SCMI_NOTHING || (agent == BAD && given == SCMI_MAILBOX_LENGTH),
              "it is not served", agent, given);
         if (given == SCMI_NOTHING)

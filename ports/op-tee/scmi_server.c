@@ -36,10 +36,6 @@ CASSERT(CFG_STACK_THREAD_EXTRA >= STACK_EXTRA, scmi_port_wants_CFG_STACK_THREAD_
 
 #pragma weak plat_scmi_get_channel
 
-/* A message and its reply; the service's lock guards them. */
-static uint32_t message[SCMI_MESSAGE_WORDS];
-static uint32_t reply[SCMI_MESSAGE_WORDS];
-
 /* Of a platform whose agents all send their messages as words. */
 struct scmi_msg_channel *plat_scmi_get_channel(unsigned int channel_id __unused)
 {
@@ -67,30 +63,6 @@ TEE_Result scmi_server_get_channel(unsigned int channel_id, int *handle)
     return TEE_SUCCESS;
 }
 
-/* Has the message that was copied answered, by `count` words. */
-static uint32_t answer(unsigned int agent, size_t words, uint32_t *count)
-{
-    scmi_platform *platform = &service_of(agent)->platform;
-    scmi_effect effect;
-    uint32_t given;
-    int32_t status;
-
-    if (words > 0)
-        scmi_service_look(agent, platform, message[0], words > 1 ? message[1] : 0);
-    given = scmi_ask_words(platform, scmi_service_number(agent), message, words, reply, SCMI_MESSAGE_WORDS, count,
-                           &effect);
-    if (given != SCMI_EFFECT)
-        return given;
-    status = scmi_service_drive(agent, &effect);
-    if (status == SCMI_SUCCESS)
-        return scmi_commit_words(platform, reply, SCMI_MESSAGE_WORDS, count);
-    given = scmi_refuse_words(platform, reply, SCMI_MESSAGE_WORDS, count, status);
-    /* A number that is no status, or says nothing of hardware. */
-    if (given == SCMI_WRONG_STATUS)
-        given = scmi_fail_words(platform, reply, SCMI_MESSAGE_WORDS, count);
-    return given;
-}
-
 /* An agent without a platform is not, nor one to which the platform may send where there is no way back. */
 static bool is_served(unsigned int agent, scmi_channel_numbers *channel)
 {
@@ -103,19 +75,21 @@ static bool is_served(unsigned int agent, scmi_channel_numbers *channel)
 static TEE_Result serve_words(unsigned int agent, const void *in, size_t in_size, void *out, size_t *out_size)
 {
     scmi_channel_numbers channel;
-    uint32_t count;
 
     if (!is_served(agent, &channel))
         return TEE_ERROR_BAD_STATE;
-    if (in_size % sizeof(message[0]) != 0 || in_size > sizeof(message))
+    if (in_size % sizeof(copy.message[0]) != 0 || in_size > sizeof(copy.message))
         return TEE_ERROR_BAD_PARAMETERS;
     if (*out_size < channel.bytes - AREA_HEAD)
         return TEE_ERROR_SHORT_BUFFER;
-    memcpy(message, in, in_size);
-    if (answer(agent, in_size / sizeof(message[0]), &count) != SCMI_DONE)
+    memcpy(copy.message, in, in_size);
+    copy.count = in_size / sizeof(copy.message[0]);
+    copy.given = 0;
+    execute(agent);
+    if (copy.given == 0)
         return TEE_ERROR_BAD_PARAMETERS;
-    memcpy(out, reply, count * sizeof(reply[0]));
-    *out_size = count * sizeof(reply[0]);
+    *out_size = copy.given * sizeof(copy.reply[0]);
+    memcpy(out, copy.reply, *out_size);
     return TEE_SUCCESS;
 }
 
@@ -141,7 +115,7 @@ static uint32_t serve_area(unsigned int agent)
     if (scmi_mailbox_is_free(&box))
         return TEE_ERROR_NO_DATA;
     serve(agent);
-    return copy.status == SCMI_MAILBOX_FREE_ERROR ? TEE_ERROR_COMMUNICATION : TEE_SUCCESS;
+    return copy.given == 0 ? TEE_ERROR_COMMUNICATION : TEE_SUCCESS;
 }
 
 TEE_Result scmi_server_smt_process_thread(unsigned int channel_id)

@@ -46,8 +46,8 @@ static uint8_t memory[SCMI_SERVICE_PLATFORMS][SCMI_PLATFORM_BYTES(
     SCMI_SERVICE_FIRMWARE, SCMI_PORT_DOMAINS, SCMI_PORT_CLOCKS, SCMI_PORT_RATES, SCMI_PORT_DEVICES)]
     __attribute__((aligned(16)));
 static uint64_t stack[SCMI_PORT_STACK / 8] __attribute__((aligned(16)));
-/* The copy of the message that is served. */
-static scmi_area copy;
+/* The message that is served, and its reply. */
+static scmi_words copy;
 /* It guards all of the above, and each call of a hook. Interrupts are masked at EL3, so none comes while it is held. */
 static spinlock_t lock;
 
@@ -180,45 +180,48 @@ static void drive(unsigned int agent, const scmi_effect *effect, bool is_pending
     if (is_pending)
         given = status == SCMI_SUCCESS ? scmi_advance(platform) : scmi_refuse_advance(platform, status);
     else
-        given = status == SCMI_SUCCESS ? scmi_commit(platform, copy.bytes) : scmi_refuse(platform, copy.bytes, status);
+        given = status == SCMI_SUCCESS
+                    ? scmi_commit_words(platform, copy.reply, SCMI_MESSAGE_WORDS, &copy.given)
+                    : scmi_refuse_words(platform, copy.reply, SCMI_MESSAGE_WORDS, &copy.given, status);
     if (given == SCMI_WRONG_STATUS) {
         INFO("SCMI: agent %u: %d of the hardware is answered as HARDWARE_ERROR\n", agent, status);
-        is_pending ? scmi_fail_advance(platform) : scmi_fail(platform, copy.bytes);
+        is_pending ? scmi_fail_advance(platform)
+                   : scmi_fail_words(platform, copy.reply, SCMI_MESSAGE_WORDS, &copy.given);
     }
     if (SCMI_PORT_TRACE)
         scmi_trace_change(agent, platform, effect, status == SCMI_SUCCESS);
 }
 
-/* Executes the message in the copy, and answers it there; without a platform it is answered by a channel error. */
+/* Executes the message in the copy. There is no reply if it is malformed, or if the agent has no platform. */
 static void execute(unsigned int agent)
 {
+    scmi_platform *platform = &service_of(agent)->platform;
     scmi_effect effect;
 
-    scmi_service_look(agent, &service_of(agent)->platform, copy.header, copy.length > 4 ? copy.payload[0] : 0);
-    if (scmi_ask(&service_of(agent)->platform, scmi_service_number(agent), copy.bytes, &effect) == SCMI_EFFECT)
+    if (copy.count > 0)
+        scmi_service_look(agent, platform, copy.message[0], copy.count > 1 ? copy.message[1] : 0);
+    if (scmi_ask_words(platform, scmi_service_number(agent), copy.message, copy.count, copy.reply, SCMI_MESSAGE_WORDS,
+                       &copy.given, &effect) == SCMI_EFFECT)
         drive(agent, &effect, false);
-    if ((copy.status & SCMI_MAILBOX_FREE) == 0)
-        copy.status = SCMI_MAILBOX_FREE_ERROR;
 }
 
 /* Whether a message was answered whose agent wants an interrupt. */
 static uint32_t serve(unsigned int agent)
 {
     scmi_mailbox box;
-    scmi_area command;
+    uint32_t flags;
 
     if (!find_box(agent, &box) || scmi_mailbox_is_free(&box))
         return false;
     make(agent);
-    if (scmi_mailbox_take(&box, &copy) != SCMI_DONE)
+    flags = scmi_shared_load(&box, SCMI_AT_FLAGS);
+    if (scmi_mailbox_take_words(&box, &copy) != SCMI_DONE)
         return false;
-    if (SCMI_PORT_TRACE)
-        command = copy;
     execute(agent);
     if (SCMI_PORT_TRACE)
-        scmi_trace_answer(agent, &command, &copy);
-    scmi_mailbox_answer(&box, &copy);
-    return (copy.flags & WANTS_INTERRUPT) != 0;
+        scmi_trace_answer(agent, &copy);
+    scmi_mailbox_answer_words(&box, &copy);
+    return (flags & WANTS_INTERRUPT) != 0;
 }
 
 /* The first pending set of a platform completes, if the hardware makes it. */
@@ -235,17 +238,17 @@ static void complete(unsigned int at)
 static bool tell(unsigned int agent)
 {
     scmi_platform *platform = &service_of(agent)->platform;
+    scmi_area message = { .status = SCMI_MAILBOX_FREE };
     scmi_mailbox box;
 
     if (!is_over(scmi_service_outbox(agent), &box))
         return false;
-    copy.status = SCMI_MAILBOX_FREE;
-    if (SCMI_PORT_TRACE && scmi_next(platform, scmi_service_number(agent), copy.bytes) != SCMI_DONE)
+    if (SCMI_PORT_TRACE && scmi_next(platform, scmi_service_number(agent), message.bytes) != SCMI_DONE)
         return false;
     if (scmi_mailbox_tell(&box, platform, scmi_service_number(agent)) != SCMI_DONE)
         return false;
     if (SCMI_PORT_TRACE)
-        scmi_trace_message(agent, &copy);
+        scmi_trace_message(agent, &message);
     return true;
 }
 

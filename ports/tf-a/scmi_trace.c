@@ -15,35 +15,35 @@
 
 #include <plat/common/platform.h>
 
-#include "../../include/scmi_mailbox.h"
-
 /* A header is a token of ten bits over the kind of the message. */
 enum { TOKEN = 18, KIND = 0x3ffff };
 
-static void say_words(const scmi_area *area)
+static void say_words(const uint32_t *words, uint32_t count)
 {
-    for (uint32_t i = 0; i + 1 < area->length / 4; i++)
-        printf(" 0x%08x", area->payload[i]);
+    for (uint32_t i = 0; i < count; i++)
+        printf(" 0x%08x", words[i]);
 }
 
-void scmi_trace_answer(unsigned int agent_id, const scmi_area *command, const scmi_area *answer)
+/* What is malformed has no words, and what is not answered no reply. */
+void scmi_trace_answer(unsigned int agent_id, const scmi_words *words)
 {
-    printf("SCMI: core %u, token %u: agent %u: 0x%05x", plat_my_core_pos(), command->header >> TOKEN, agent_id,
-           command->header & KIND);
-    if (answer->status == SCMI_MAILBOX_FREE)
-        say_words(command);
-    else
-        printf(" of %u bytes", command->length);
-    printf("  ->  %u:", answer->status);
-    if (answer->status == SCMI_MAILBOX_FREE)
-        say_words(answer);
+    printf("SCMI: core %u", plat_my_core_pos());
+    if (words->count == 0) {
+        printf(": agent %u: malformed", agent_id);
+    } else {
+        printf(", token %u: agent %u: 0x%05x", words->message[0] >> TOKEN, agent_id, words->message[0] & KIND);
+        say_words(words->message + 1, words->count - 1);
+    }
+    printf("  ->  %u:", words->given > 0 ? SCMI_MAILBOX_FREE : SCMI_MAILBOX_FREE_ERROR);
+    if (words->given > 0)
+        say_words(words->reply + 1, words->given - 1);
     printf("\n");
 }
 
 void scmi_trace_message(unsigned int agent_id, const scmi_area *message)
 {
     printf("SCMI: agent %u: told 0x%05x", agent_id, message->header & KIND);
-    say_words(message);
+    say_words(message->payload, message->length / 4 - 1);
     printf("\n");
 }
 

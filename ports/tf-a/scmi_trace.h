@@ -4,14 +4,14 @@
 
 #include <stdbool.h>
 
-#include "../../include/scmi.h"
+#include "../../include/scmi_mailbox.h"
 
 #ifndef SCMI_PORT_TRACE
 #define SCMI_PORT_TRACE 0
 #endif
 
-/* A command, as it was copied, and its answer. */
-void scmi_trace_answer(unsigned int agent_id, const scmi_area *command, const scmi_area *answer);
+/* A command, and its answer. */
+void scmi_trace_answer(unsigned int agent_id, const scmi_words *words);
 
 /* A message that was posted to an agent. */
 void scmi_trace_message(unsigned int agent_id, const scmi_area *message);

@@ -363,6 +363,55 @@ static void copies(uint32_t status, uint32_t length)
     need(given == (is_free ? SCMI_NOTHING : number_of_copy()) && is_same(&area, &due), "another number, or another copy");
 }
 
+static int is_same_words(const scmi_words *a, const scmi_words *b)
+{
+    return memcmp(a, b, sizeof(*a)) == 0;
+}
+
+/* What is read as words, and written. */
+static void in_words(uint32_t status, uint32_t length)
+{
+    scmi_mailbox box = box_at(nowhere);
+    scmi_words copy, due;
+    uint32_t i, given;
+    int has_reply;
+
+    fill(status, length);
+    for (i = 0; i < sizeof(copy) / 4; i++)
+        ((uint32_t *)&copy)[i] = another();
+    due = copy;
+    begin("take_words");
+    plan.looks = 1;
+    if (!(status & 1)) {
+        plan.loads[LENGTH] = 1;
+        due.count = due.given = 0;
+        if (fits(length, payload_words))
+            for (due.count = length / 4, i = 0; i < due.count; i++) {
+                plan.loads[HEADER + i] = 1;
+                due.message[i] = words[HEADER + i];
+            }
+    }
+    given = scmi_mailbox_take_words(&box, &copy);
+    check_plan();
+    need(given == (status & 1 ? SCMI_NOTHING : SCMI_DONE) && is_same_words(&copy, &due), "another number, or another copy");
+
+    due.given = copy.given = length;
+    has_reply = length >= 1 && length <= payload_words + 1;
+    fill(another(), another());
+    begin("answer_words");
+    plan.releases = 1;
+    plan.status = has_reply ? 1 : 3;
+    for (i = 0; has_reply && i < length; i++) {
+        plan.stores[HEADER + i] = 1;
+        plan.stored[HEADER + i] = copy.reply[i];
+    }
+    plan.stores[LENGTH] = (unsigned char)has_reply;
+    plan.stored[LENGTH] = 4 * length;
+    given = scmi_mailbox_answer_words(&box, &copy);
+    check_plan();
+    need(given == (has_reply ? SCMI_DONE : SCMI_MAILBOX_LENGTH) && is_same_words(&copy, &due), "another number, or another copy");
+}
+
 /* What an answer in a copy does to its channel, and the number for that. */
 static uint32_t plan_answer(const scmi_area *area)
 {
@@ -558,6 +607,7 @@ static void all(void)
             for (l = 0; l < LENGTHS; l++) {
                 copies(statuses[s], length_of(l));
                 writes(statuses[s], length_of(l));
+                in_words(statuses[s], length_of(l));
                 tells(statuses[s], length_of(l), SCMI_DONE, SCMI_DONE);
             }
             for (n = 0; n < COUNT(numbers); n++) {
@@ -600,8 +650,9 @@ static void shapes(void)
     scmi_mailbox box;
     scmi_platform platform = { 0 };
     scmi_area area = other_area(0, 12);
-    char agent[200] = "commands agent", server[200] = "commands platform", teller[200] = "messages platform",
-         taker[200] = "messages agent";
+    scmi_words copy;
+    char agent[200] = "commands agent", server[200] = "commands platform", server_in_words[200] = "commands platform",
+         teller[200] = "messages platform", taker[200] = "messages agent";
 
     payload_words = 64;
     box = box_at(nowhere);
@@ -615,6 +666,11 @@ static void shapes(void)
     count = 0, (void)scmi_mailbox_take(&box, &area), add_shape(server);
     area = other_area(1, 12);
     count = 0, (void)scmi_mailbox_answer(&box, &area), add_shape(server);
+    fill(0, 12);
+    count = 0, (void)scmi_mailbox_take_words(&box, &copy), add_shape(server_in_words);
+    copy.given = 3;
+    count = 0, (void)scmi_mailbox_answer_words(&box, &copy), add_shape(server_in_words);
+    need(strcmp(server, server_in_words) == 0, "in words the order is another");
     fill(1, 12);
     leaves = other_area(0, 12);
     gives[NEXT] = gives[SENT] = SCMI_DONE;

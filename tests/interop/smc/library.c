@@ -24,18 +24,19 @@ static bool deny(uint32_t agent, uint32_t device)
 
 bool server_serve(uint32_t agent)
 {
-    scmi_area area;
+    scmi_words copy;
     scmi_effect effect;
 
-    if (scmi_mailbox_take(&boxes[agent], &area) != SCMI_DONE)
+    if (scmi_mailbox_take_words(&boxes[agent], &copy) != SCMI_DONE)
         return false;
-    if (scmi_ask(&platform, agent, area.bytes, &effect) == SCMI_EFFECT) {
+    if (scmi_ask_words(&platform, agent, copy.message, copy.count, copy.reply, SCMI_MESSAGE_WORDS, &copy.given,
+                       &effect) == SCMI_EFFECT) {
         if (hardware_make(&effect))
-            scmi_commit(&platform, area.bytes);
+            scmi_commit_words(&platform, copy.reply, SCMI_MESSAGE_WORDS, &copy.given);
         else
-            scmi_fail(&platform, area.bytes);
+            scmi_fail_words(&platform, copy.reply, SCMI_MESSAGE_WORDS, &copy.given);
     }
-    return scmi_mailbox_answer(&boxes[agent], &area) == SCMI_DONE;
+    return scmi_mailbox_answer_words(&boxes[agent], &copy) == SCMI_DONE;
 }
 
 static bool bring_up(void)
