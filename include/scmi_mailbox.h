@@ -71,13 +71,14 @@ static inline void scmi_shared_store(const scmi_mailbox *box, uint32_t at, uint3
     __atomic_store_n(&box->words[at], word, __ATOMIC_RELAXED);
 }
 
-/* Copies the header word of a channel and what is behind it, each word once. */
+/* Copies the header word of a channel and what is behind it, each word once: `count` words, 1 or more. */
 static inline void scmi_shared_read(const scmi_mailbox *box, uint32_t *to, uint32_t count)
 {
     scmi_shared_word *from = box->words + SCMI_AT_HEADER, *end = from + count;
 
-    while (from != end)
+    do
         *to++ = __atomic_load_n(from++, __ATOMIC_RELAXED);
+    while (from != end);
 }
 
 /* The same in the other direction. */
@@ -85,8 +86,9 @@ static inline void scmi_shared_write(const scmi_mailbox *box, const uint32_t *fr
 {
     scmi_shared_word *to = box->words + SCMI_AT_HEADER, *end = to + count;
 
-    while (to != end)
+    do
         __atomic_store_n(to++, *from++, __ATOMIC_RELAXED);
+    while (to != end);
 }
 
 /* Later reads see what the other side wrote before it handed over. */
@@ -226,9 +228,12 @@ static inline uint32_t scmi_mailbox_take_words(const scmi_mailbox *box, scmi_wor
     if (scmi_mailbox_is_free(box))
         return SCMI_NOTHING;
     length = scmi_shared_load(box, SCMI_AT_LENGTH);
-    words->count = scmi_length_fits(length, box->payload_words) ? length / 4 : 0;
+    words->count = 0;
     words->given = 0;
-    scmi_shared_read(box, words->message, words->count);
+    if (scmi_length_fits(length, box->payload_words)) {
+        words->count = length / 4;
+        scmi_shared_read(box, words->message, length / 4);
+    }
     return SCMI_DONE;
 }
 

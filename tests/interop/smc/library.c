@@ -24,10 +24,11 @@ static bool deny(uint32_t agent, uint32_t device)
 
 bool server_serve(uint32_t agent)
 {
+    scmi_mailbox box = boxes[agent];
     scmi_words copy;
     scmi_effect effect;
 
-    if (scmi_mailbox_take_words(&boxes[agent], &copy) != SCMI_DONE)
+    if (scmi_mailbox_take_words(&box, &copy) != SCMI_DONE)
         return false;
     if (scmi_ask_words(&platform, agent, copy.message, copy.count, copy.reply, SCMI_MESSAGE_WORDS, &copy.given,
                        &effect) == SCMI_EFFECT) {
@@ -36,7 +37,7 @@ bool server_serve(uint32_t agent)
         else
             scmi_fail_words(&platform, copy.reply, SCMI_MESSAGE_WORDS, &copy.given);
     }
-    return scmi_mailbox_answer_words(&boxes[agent], &copy) == SCMI_DONE;
+    return scmi_mailbox_answer_words(&box, &copy) == SCMI_DONE;
 }
 
 static bool bring_up(void)
