@@ -31,7 +31,7 @@
 #endif
 
 /* What the end of that stack holds. */
-#define UNTOUCHED 0x7363616d61726b21ULL
+#define UNTOUCHED 0x7363616d
 
 /* Of the flags of an area. */
 enum { WANTS_INTERRUPT = 1 };
@@ -93,19 +93,19 @@ static bool is_over(const struct scmi_msg_channel *channel, scmi_mailbox *box)
     return channel != NULL && scmi_mailbox_over(box, (void *)channel->shm_addr, channel->shm_size) == SCMI_DONE;
 }
 
-/* The mailbox over an agent's channel. False if it has none, or one that is no channel, which is then in error. */
-static bool find_box(unsigned int agent, scmi_mailbox *box)
+/* The mailbox over an agent's channel. It has no words if the agent has none, or one that is no channel, and is then in
+ * error. */
+static scmi_mailbox find_box(unsigned int agent)
 {
     const struct scmi_msg_channel *channel = agent < SCMI_PORT_AGENTS ? plat_scmi_get_channel(agent) : NULL;
+    scmi_mailbox box = { NULL, 0 };
 
-    if (is_over(channel, box))
-        return true;
-    if (channel == NULL)
-        return false;
-    box->words = (scmi_shared_word *)channel->shm_addr;
+    if (channel == NULL || is_over(channel, &box))
+        return box;
+    box.words = (scmi_shared_word *)channel->shm_addr;
     if (channel->shm_addr % 4 == 0 && channel->shm_size > SCMI_AREA_STATUS + 3)
-        scmi_shared_hand_over(box, SCMI_MAILBOX_FREE_ERROR);
-    return false;
+        scmi_shared_hand_over(&box, SCMI_MAILBOX_FREE_ERROR);
+    return (scmi_mailbox){ NULL, 0 };
 }
 
 /* Whether each agent's channels are those that its board says: if not, no message of it could be answered whole. */
@@ -208,15 +208,14 @@ static void execute(unsigned int agent)
 /* Whether a message was answered whose agent wants an interrupt. */
 static uint32_t serve(unsigned int agent)
 {
-    scmi_mailbox box;
+    scmi_mailbox box = find_box(agent);
     uint32_t flags;
 
-    if (!find_box(agent, &box) || scmi_mailbox_is_free(&box))
+    if (box.words == NULL || scmi_mailbox_take_words(&box, &copy) != SCMI_DONE)
         return false;
-    make(agent);
     flags = scmi_shared_load(&box, SCMI_AT_FLAGS);
-    if (scmi_mailbox_take_words(&box, &copy) != SCMI_DONE)
-        return false;
+    if (!service_of(agent)->is_asked_for)
+        make(agent);
     execute(agent);
     if (SCMI_PORT_TRACE)
         scmi_trace_answer(agent, &copy);
@@ -276,10 +275,10 @@ static void clear(const scmi_mailbox *box)
 /* What the agent asked for ends; nothing is asked of the hardware here, so this comes between two messages. */
 static uint32_t restart(unsigned int agent)
 {
-    scmi_mailbox commands, messages;
+    scmi_mailbox commands = find_box(agent), messages;
     const scmi_mailbox *back;
 
-    if (!find_box(agent, &commands))
+    if (commands.words == NULL)
         return 0;
     back = is_over(scmi_service_outbox(agent), &messages) ? &messages : NULL;
     clear(&commands);
@@ -318,12 +317,12 @@ bool scmi_service_serve(unsigned int agent_id)
 
 void scmi_smt_fastcall_smc_entry(unsigned int agent_id)
 {
-    scmi_service_serve(agent_id);
+    enter(serve, agent_id);
 }
 
 void scmi_smt_interrupt_entry(unsigned int agent_id)
 {
-    scmi_service_serve(agent_id);
+    enter(serve, agent_id);
 }
 
 bool scmi_service_make(unsigned int agent_id)
