@@ -11,7 +11,7 @@ uint64_t measure(uint32_t id, uint64_t first, uint64_t second);
 
 /*
  * The bare call of the server that answers, or of the library the one that asks, with the one that commits where
- * hardware is to change, for `rounds` copies of the frame that stands in an agent's area: in ticks.
+ * hardware is to change, `rounds` times for the frame that stands in an agent's area: in ticks.
  */
 uint64_t measure_server(uint32_t agent, uint32_t rounds, bool asks);
 #endif
