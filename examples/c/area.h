@@ -56,4 +56,18 @@ static inline void area_answer(scmi_platform *platform, uint32_t agent, uint32_t
     area_print_words(area);
 }
 
+/* Takes all messages off an agent's outbox, and prints them. */
+static inline void area_tell(scmi_platform *platform, uint32_t agent)
+{
+    uint8_t area[SCMI_AREA_BYTES] = { 0 };
+
+    area_set_word(area, SCMI_AREA_STATUS, STATUS_FREE);
+    while (scmi_next(platform, agent, area) == SCMI_DONE) {
+        printf("to agent %u: header 0x%08x, words", (unsigned)agent, (unsigned)area_word(area, SCMI_AREA_HEADER));
+        area_print_words(area);
+        scmi_sent(platform, agent);
+        area_set_word(area, SCMI_AREA_STATUS, STATUS_FREE);
+    }
+}
+
 #endif

@@ -61,19 +61,6 @@ static void call(scmi_platform *platform, uint32_t agent, uint32_t header, unsig
     area_print_words(area);
 }
 
-static void tell(scmi_platform *platform, uint32_t agent)
-{
-    uint8_t area[SCMI_AREA_BYTES] = { 0 };
-
-    area_set_word(area, SCMI_AREA_STATUS, STATUS_FREE);
-    while (scmi_next(platform, agent, area) == SCMI_DONE) {
-        printf("to agent %u: header 0x%08x, words", (unsigned)agent, (unsigned)area_word(area, SCMI_AREA_HEADER));
-        area_print_words(area);
-        scmi_sent(platform, agent);
-        area_set_word(area, SCMI_AREA_STATUS, STATUS_FREE);
-    }
-}
-
 /* Calls that come to nothing, and leave all as it was. */
 static void refuse(scmi_platform *platform)
 {
@@ -109,8 +96,8 @@ int main(void)
     call(&platform, 1, 0x00085005, 4, (uint32_t[]){ 1, 0, 300, 0 });     /* 300 Hz later, token 2 */
     for (unsigned i = 0; i < 3; i++)
         printf("advance %u\n", (unsigned)complete(&platform));
-    tell(&platform, 1);
-    tell(&platform, 2);
+    area_tell(&platform, 1);
+    area_tell(&platform, 2);
     call(&platform, 1, 0x00004405, 1, (uint32_t[]){ 0 }); /* POWER_STATE_GET */
     call(&platform, 1, 0x00005006, 1, (uint32_t[]){ 0 }); /* CLOCK_RATE_GET */
     call(&platform, 1, 0x00005007, 2, (uint32_t[]){ 0, 0 }); /* CLOCK_CONFIG_SET, core disabled */

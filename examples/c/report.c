@@ -22,25 +22,11 @@ enum { WORDS = 1 + SCMI_PAYLOAD_WORDS, SMALL = 60, ON = 0, OFF = 0x40000000, LAT
 enum { STATE_SET = 0x00004404, STATE_GET = 0x00004405, STATE_NOTIFY = 0x00004406 };
 enum { CLOCK_ATTRIBUTES = 0x00005003, RATE_SET = 0x00005005, RATE_GET = 0x00005006, RATE_SET_1 = 0x00045005 };
 
-/* Takes what waits for an agent. */
-static void take(scmi_platform *platform, uint32_t agent)
-{
-    uint8_t area[SCMI_AREA_BYTES] = { 0 };
-
-    area_set_word(area, SCMI_AREA_STATUS, STATUS_FREE);
-    while (scmi_next(platform, agent, area) == SCMI_DONE) {
-        printf("to %u: header 0x%08x, words", (unsigned)agent, (unsigned)area_word(area, SCMI_AREA_HEADER));
-        area_print_words(area);
-        scmi_sent(platform, agent);
-        area_set_word(area, SCMI_AREA_STATUS, STATUS_FREE);
-    }
-}
-
 /* The domain changed by itself: what its subscriber gets, and what an agent reads. */
 static void domain_is(scmi_platform *platform, uint32_t state)
 {
     printf("domain 0 is 0x%08x: %u\n", (unsigned)state, (unsigned)scmi_domain_is(platform, 0, state));
-    take(platform, 2);
+    area_tell(platform, 2);
     area_answer(platform, 2, STATE_GET, 1, (uint32_t[]){ 0 });
 }
 
@@ -75,8 +61,8 @@ static void while_pending(scmi_platform *platform)
     printf("advance %u", (unsigned)scmi_advance(platform));
     printf(" %u", (unsigned)scmi_advance(platform));
     printf(" %u\n", (unsigned)scmi_advance(platform));
-    take(platform, 1);
-    take(platform, 2);
+    area_tell(platform, 1);
+    area_tell(platform, 2);
     area_answer(platform, 1, STATE_GET, 1, (uint32_t[]){ 0 });
     area_answer(platform, 1, RATE_GET, 1, (uint32_t[]){ 0 });
 }
