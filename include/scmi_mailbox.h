@@ -207,8 +207,8 @@ static inline uint32_t scmi_mailbox_answer(const scmi_mailbox *box, const scmi_a
 }
 
 /*
- * A message of a channel, and the reply to it, as the calls in words of scmi.h take and give them. With these a command
- * takes fewer instructions than as an area.
+ * A message of a channel, and the reply to it, as the calls in words of scmi.h take and give them. On aarch64 a command
+ * takes fewer instructions so than as an area.
  */
 typedef struct scmi_words {
     uint32_t count; /* of the message: the header word and the payload; 0 for a malformed frame */
