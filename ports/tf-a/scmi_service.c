@@ -25,9 +25,9 @@
 #pragma weak scmi_service_outbox
 #pragma weak scmi_service_look
 
-/* A core's stack in BL31 may have 1 KB; making a platform takes 9 KB, and so all is done on a stack of its own. */
+/* A core's stack in BL31 may have 1 KB; making a platform takes 7 KB, and so all is done on a stack of its own. */
 #ifndef SCMI_PORT_STACK
-#define SCMI_PORT_STACK 10240
+#define SCMI_PORT_STACK 8192
 #endif
 
 /* What the end of that stack holds. */

@@ -5,7 +5,7 @@ use Rattle.scmi_decode.specs.Decoded.{has_area}
 use Rattle.scmi_decode.specs.Finding.{any_area, parts_found}
 use Rattle.scmi_decode.specs.declared.layout.Layout.{Layout}
 use Rattle.scmi_decode.specs.declared.layout.Layout.TheVariants.{Whole}
-use Rattle.scmi_draw.specs.Picture.{IsDiagram}
+use Rattle.scmi_chart.specs.Picture.{IsDiagram}
 use Rattle.scmi_live.specs.Hertz.{in_hertz}
 use Rattle.scmi_table.specs.Run.{HoldsBoard}
 use Rattle.scmi.specs.Given.{OfGiven}

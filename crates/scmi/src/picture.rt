@@ -2,17 +2,15 @@
 
 use crate::board_names::BoardNames;
 use scmi_board::{Lines, TextLine, read_valid_board};
-use scmi_chart::Recorder;
+use scmi_chart::{Chart, Recorder, STEPS, title_of};
 use scmi_check::{CheckError, Names, PROTOCOLS, Placed, Record, read_record};
 use scmi_codec::{Answer, Frame, Header, Message, payload_of};
 use scmi_core::Core;
-use scmi_draw::{STEPS, title_of};
 use scmi_judge::Entry;
 use scmi_link::Collected;
 use scmi_live::in_hertz;
 use scmi_plan::{Plan, RawPlan};
 use scmi_script::Served;
-use scmi_svg::Chart;
 use scmi_text::{AgentStep, Call, PlatformStep, Step, StepLine};
 use std::alloc::{AllocError, Global};
 

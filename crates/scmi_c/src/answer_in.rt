@@ -90,14 +90,15 @@ pub extern "C" fn scmi_next_in(
     ensures errors { ((result ≤ NO_PLATFORM) × (result ≢ MEMORY)) ⊎ (result ≡ WRONG_SIZE) }
     ensures kept { result ≢ DONE → area.new ≡ area.old }
 {
-    let Some(desk) = platform.take(alloc) else {
+    let Some(mut desk) = platform.take(alloc) else {
         return NO_PLATFORM;
     };
     if let Err(refusal) = desk.held.check_size(agent, area.len()) {
         platform.put(desk);
         return code(Err(refusal));
     }
-    let given = post_next(&desk.held, agent, area);
+    let seat: &mut Desk = &mut desk;
+    let given = post_next(&seat.held, &mut seat.exchange, agent, area);
     platform.put(desk);
     code(given)
 }

@@ -131,7 +131,12 @@ pub fn ask(
 /// the board lacks the agent, `Nothing` if its outbox is empty, and `NotFree` if the channel still
 /// holds a message. Then nothing changed.
 #[inline(always)]
-pub fn post_next(held: &Held, agent: u32, area: &mut [u8]) -> Result<(), Refusal>
+pub fn post_next(
+    held: &Held,
+    exchange: &mut Exchange,
+    agent: u32,
+    area: &mut [u8],
+) -> Result<(), Refusal>
     requires size { is_channel_size (length area.old) ≡ true }
     requires room { IsAreaOf agent (length area.old) held.now }
     ensures ok { OnOk result (HasPosted held.now agent area.old area.new) }
@@ -143,17 +148,19 @@ pub fn post_next(held: &Held, agent: u32, area: &mut [u8]) -> Result<(), Refusal
         (HasNext (board_of held.now) agent h × (channel_waiting area.old ≢ None)) }
     ensures errors { IfErr result (λ e.
         (e ≡ Refusal.Nothing) ⊎ (e ≡ Refusal.NoAgent) ⊎ (e ≡ Refusal.NotFree)) }
+    ensures frame { exchange.new.frame ≡ exchange.old.frame }
     ensures kept { OnErr result (area.new ≡ area.old) }
 {
     held.check_agent(agent)?;
-    let Some(message) = held.platform.first(agent) else {
+    let Some(first) = held.platform.first(agent) else {
         return Err(Refusal::Nothing);
     };
     let Ok(true) = is_channel_free(area) else {
         return Err(Refusal::NotFree);
     };
+    first.copy_to(&mut exchange.reply);
     // A message of an outbox fits its agent's channel, so it is always written.
-    match write_channel_message(area, message) {
+    match write_channel_message(area, &exchange.reply) {
         Ok(()) => Ok(()),
         Err(_) => Err(Refusal::NotFree),
     }

@@ -12,6 +12,7 @@ ghost use Rattle.scmi_c.specs.declared.code.TheConstants.{ASKED, DONE, NOTHING, 
 
 use crate::area::post_next;
 use crate::code::{NO_PLATFORM, code};
+use crate::desk::Desk;
 use crate::handle::Handle;
 use scmi_codec::AREA_BYTES;
 use std::alloc::Global;
@@ -42,10 +43,11 @@ pub extern "C" fn scmi_next(
     ensures errors { (result ≤ NO_PLATFORM) × (result ≢ MEMORY) }
     ensures kept { result ≢ DONE → area.new ≡ area.old }
 {
-    let Some(desk) = platform.take(alloc) else {
+    let Some(mut desk) = platform.take(alloc) else {
         return NO_PLATFORM;
     };
-    let given = post_next(&desk.held, agent, area);
+    let seat: &mut Desk = &mut desk;
+    let given = post_next(&seat.held, &mut seat.exchange, agent, area);
     platform.put(desk);
     code(given)
 }

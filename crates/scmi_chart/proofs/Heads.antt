@@ -1,7 +1,7 @@
 -- One lifeline more.
 use Rattle.std.proofs.Common.{◌≡◌, ℕ, ◌+◌, ◌<◌, List, [], ◌∷◌, ◌++◌, map, take, get_or, length, ap, sym, ◌∙◌, arith}
 use Rattle.std.proofs.lemmas.List.{map_push, take_more, length-map, length-take-le}
-use Rattle.scmi_svg.specs.declared.chart.Lifeline.{Lifeline}
+use Rattle.scmi_chart.specs.declared.chart.Lifeline.{Lifeline}
 use Rattle.scmi_chart.specs.Signs.{lane}
 use Rattle.scmi_chart.specs.Shown.{head_of, heads_from}
 

@@ -1,3 +1,9 @@
+pub mod AnyMode
+pub mod History
+pub mod Mode
+pub mod Picture
+pub mod Run
+pub mod Threads
 pub mod Detail
 pub mod Posted
 pub mod Service
@@ -6,3 +12,7 @@ pub mod Signs
 pub mod Standing
 pub mod Value
 pub mod Words
+pub mod Escape
+pub mod Rate
+pub mod DiagramValue
+pub mod Diagram

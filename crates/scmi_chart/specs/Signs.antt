@@ -23,13 +23,13 @@ use Rattle.scmi_text.specs.declared.step.Step.TheVariants as step
 use Rattle.scmi_text.specs.declared.step.AgentStep.TheVariants as agent_step
 use Rattle.scmi_text.specs.declared.step_line.StepLine.{StepLine}
 use Rattle.scmi_text.specs.declared.step_line.StepLine.TheVariants as line
-use Rattle.scmi_svg.specs.declared.mark.Mark.{Mark}
-use Rattle.scmi_svg.specs.declared.mark.Mark.TheVariants as mark
-use Rattle.scmi_svg.specs.declared.mark.Outcome.{Outcome}
-use Rattle.scmi_svg.specs.declared.mark.Outcome.TheVariants as outcome
-use Rattle.scmi_svg.specs.declared.mark.Side.{Side}
-use Rattle.scmi_svg.specs.declared.mark.Side.TheVariants as side
-use Rattle.scmi_svg.specs.declared.mark.Message.{Message as Arrow}
+use Rattle.scmi_chart.specs.declared.mark.Mark.{Mark}
+use Rattle.scmi_chart.specs.declared.mark.Mark.TheVariants as mark
+use Rattle.scmi_chart.specs.declared.mark.Outcome.{Outcome}
+use Rattle.scmi_chart.specs.declared.mark.Outcome.TheVariants as outcome
+use Rattle.scmi_chart.specs.declared.mark.Side.{Side}
+use Rattle.scmi_chart.specs.declared.mark.Side.TheVariants as side
+use Rattle.scmi_chart.specs.declared.mark.Message.{Message as Arrow}
 use Rattle.scmi_chart.specs.Detail.{answer_detail, message_detail, step_detail}
 
 -- what a mark shows, with the header and the words of its message in hexadecimal: whether a command that an agent posted was executed, with its token if it has one; a post was refused; the platform executed a command; the outcome of the answer to its command that an agent read; an agent took a delayed response or a notification; the platform posted a message; it was to complete a pending set, and whether there was one; it ended one whose change the hardware refused; an agent's command was answered with the status with which the hardware beside it refuses; channels were closed; an agent restarted; a step of an agent's came to nothing; or, of number 0, the hardware reported a change, which the platform took over

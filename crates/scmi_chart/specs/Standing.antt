@@ -8,8 +8,8 @@ use Rattle.scmi_core.specs.Pending.{is_pending}
 use Rattle.scmi_core.specs.Value.{bit_value, value}
 use Rattle.scmi_core.specs.Value as slot
 use Rattle.scmi_core.specs.declared.event.Event.{Event}
-use Rattle.scmi_svg.specs.declared.chart.State.{State}
-use Rattle.scmi_svg.specs.declared.chart.State.TheVariants as state
+use Rattle.scmi_chart.specs.declared.chart.State.{State}
+use Rattle.scmi_chart.specs.declared.chart.State.TheVariants as state
 use Rattle.scmi_chart.specs.declared.subject.Subject.{Subject}
 use Rattle.scmi_chart.specs.declared.subject.Subject.TheVariants as subject
 

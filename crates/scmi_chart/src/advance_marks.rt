@@ -3,8 +3,8 @@ ghost use Rattle.std.specs.Prelude.{◌≡◌, [], ◌∷◌, OnOk};
 ghost use Rattle.scmi_chart.specs.Signs.{advanced, failed_signs};
 ghost use Rattle.scmi_chart.specs.Shown.{adds};
 
+use crate::mark::Mark;
 use crate::recorder::Recorder;
-use scmi_svg::Mark;
 use std::alloc::AllocError;
 
 impl<'a> Recorder<'a> {

@@ -4,11 +4,11 @@ ghost use Rattle.scmi_chart.specs.Signs.{answered_sign, collected_signs, outcome
 ghost use Rattle.scmi_chart.specs.Shown.{adds};
 
 use crate::arrows::{Way, answer_arrow};
+use crate::mark::{Mark, Side};
 use crate::recorder::Recorder;
 use crate::sign::outcome_of;
 use scmi_codec::Answer;
 use scmi_link::Collected;
-use scmi_svg::{Mark, Side};
 use std::alloc::AllocError;
 
 impl<'a> Recorder<'a> {

@@ -6,12 +6,12 @@ ghost use Rattle.scmi_chart.specs.Signs.{detail_of};
 use crate::asked::asked_label;
 use crate::detail::{answer_detail, message_detail, step_detail};
 use crate::label_texts::{CLOSED, FULL, OUTSTANDING, WELL_FORMED};
+use crate::mark::{Message as Arrow, Outcome};
 use crate::posted_label::posted_label;
 use crate::reply_label::answer_label;
 use scmi_codec::{Answer, Message};
 use scmi_link::PostError;
 use scmi_plan::RawPlan;
-use scmi_svg::{Message as Arrow, Outcome};
 use scmi_text::Step;
 use std::alloc::{AllocError, Global};
 

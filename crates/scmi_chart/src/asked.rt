@@ -3,12 +3,12 @@
 use crate::fields::add_fields;
 use crate::label::{name_label, name_of, plain_label};
 use crate::label_texts::{ITSELF, LENGTH, MALFORMED, TYPE};
+use crate::mark::Label;
 use crate::posts::message_of;
 use crate::words::{numbered_words, payload_words};
 use scmi_codec::{BASE_PROTOCOL, Command, Message};
 use scmi_describe::command_fields;
 use scmi_plan::RawPlan;
-use scmi_svg::Label;
 use scmi_text::{AgentStep, Step};
 use std::alloc::{AllocError, Global};
 

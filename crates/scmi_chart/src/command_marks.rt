@@ -6,11 +6,11 @@ ghost use Rattle.scmi_chart.specs.Service.{sets_later};
 ghost use Rattle.scmi_chart.specs.Shown.{adds, with_later};
 
 use crate::arrows::{Way, asked_arrow, refused_arrow};
+use crate::mark::Mark;
 use crate::posts::sets_later;
 use crate::recorder::Recorder;
 use crate::sign::command_mark;
 use scmi_link::PostError;
-use scmi_svg::Mark;
 use scmi_text::Step;
 use std::alloc::AllocError;
 

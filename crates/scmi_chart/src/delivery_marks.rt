@@ -4,11 +4,11 @@ ghost use Rattle.scmi_chart.specs.Signs.{flushed_signs, taken_signs};
 ghost use Rattle.scmi_chart.specs.Shown.{adds};
 
 use crate::arrows::{Way, posted_arrow};
+use crate::mark::{Mark, Side};
 use crate::recorder::Recorder;
 use crate::sign::posted_mark;
 use scmi_codec::Frame;
 use scmi_script::Flushed;
-use scmi_svg::{Mark, Side};
 use std::alloc::AllocError;
 
 impl<'a> Recorder<'a> {

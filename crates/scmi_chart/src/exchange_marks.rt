@@ -4,11 +4,11 @@ ghost use Rattle.scmi_chart.specs.Signs.{exchange_signs, executed, fault_signs, 
 ghost use Rattle.scmi_chart.specs.Service.{if_got, sets_later};
 ghost use Rattle.scmi_chart.specs.Shown.{adds, exchanged, serves, with_later};
 
+use crate::mark::Mark;
 use crate::recorder::Recorder;
 use crate::sign::{has_fault, reply_token};
 use scmi_codec::Fault;
 use scmi_link::Collected;
-use scmi_svg::Mark;
 use scmi_text::Step;
 use std::alloc::{AllocError, Global};
 

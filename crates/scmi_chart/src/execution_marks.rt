@@ -4,9 +4,9 @@ ghost use Rattle.scmi_chart.specs.Signs.{executed, served_signs};
 ghost use Rattle.scmi_chart.specs.Service.{if_done};
 ghost use Rattle.scmi_chart.specs.Shown.{serves};
 
+use crate::mark::{Mark, Side};
 use crate::recorder::Recorder;
 use scmi_script::Served;
-use scmi_svg::{Mark, Side};
 use std::alloc::AllocError;
 
 impl<'a> Recorder<'a> {

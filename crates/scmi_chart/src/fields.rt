@@ -6,11 +6,11 @@ use crate::flags::{
 };
 use crate::label::{add_behind, add_remark, protocol_words};
 use crate::label_texts::{AGENTS, BY, DEVICE, FROM, PROTOCOLS, SKIP, VERSION};
+use crate::mark::Label;
 use crate::value::{Value, filled_words};
 use crate::words::{counted_words, hex_words, name_words, numbered_words, rate_words, state_words};
 use scmi_describe::Field;
 use scmi_plan::RawPlan;
-use scmi_svg::Label;
 use std::alloc::{AllocError, Global};
 
 /// Adds the fields of a message to its label, in order.

@@ -2,9 +2,9 @@
 
 use crate::label::{add_remark, add_remark_if};
 use crate::label_texts::{ALLOW, ASYNC, DENY, FLAGS, NEAREST, NO_RESPONSE, PERMISSIONS, UP};
+use crate::mark::Label;
 use crate::value::{Value, filled_words};
 use crate::words::switch_word;
-use scmi_svg::Label;
 use std::alloc::{AllocError, Global};
 
 /// Adds what bit 0 of a word switches.

@@ -1,10 +1,10 @@
 //! What messages are about, in words.
 
 use crate::label_texts::{COMMA, PROTOCOL, UNNAMED};
+use crate::mark::Label;
 use crate::value::{Value, filled_words};
 use scmi_codec::message_name;
 use scmi_describe::protocol_name;
-use scmi_svg::Label;
 use std::alloc::{AllocError, Global};
 
 /// A label of a name alone.

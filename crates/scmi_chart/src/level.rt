@@ -1,5 +1,5 @@
 //! A state that lasts.
-use scmi_svg::{Span, State};
+use crate::chart::{Span, State};
 use std::alloc::AllocError;
 
 /// A state that lasts, and since when.

@@ -1,13 +1,13 @@
 //! The states of a board's domains, clocks and outboxes along the time axis, and the notifications that
 //! were dropped.
 use crate::board_names::{agent_name, clock_name, domain_name};
+use crate::chart::{Column, Dropped, Span, State};
 use crate::dropped_words::dropped_words;
 use crate::level::Level;
 use crate::subject::Subject;
 use crate::words::{rate_words, state_words};
 use scmi_core::Core;
 use scmi_plan::RawPlan;
-use scmi_svg::{Column, Dropped, Span, State};
 use std::alloc::{AllocError, Global};
 
 /// The states of one domain, clock or outbox.

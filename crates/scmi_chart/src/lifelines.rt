@@ -3,9 +3,9 @@ ghost use Rattle.std.specs.Prelude.{◌≡◌, ◌+◌, IfOk, map, string_bytes}
 ghost use Rattle.scmi_chart.specs.Signs.{lane};
 ghost use Rattle.scmi_chart.specs.Shown.{head_of, heads_from};
 
+use crate::chart::Lifeline;
 use crate::parties::Parties;
 use scmi_plan::RawPlan;
-use scmi_svg::Lifeline;
 use std::alloc::{AllocError, Global};
 
 /// The lifelines of a board's agents, in the order of their numbers.

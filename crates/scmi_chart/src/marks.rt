@@ -3,7 +3,7 @@ ghost use Rattle.std.specs.Prelude.{◌≡◌, [], ◌∷◌, ◌++◌, true, On
 ghost use Rattle.scmi_chart.specs.Signs.{detail_of, sign_of, sent};
 ghost use Rattle.scmi_chart.specs.Service.{executed_by};
 
-use scmi_svg::{Mark, Message};
+use crate::mark::{Mark, Message};
 use std::alloc::{AllocError, Global};
 use std::marker::Model;
 use std::mem;

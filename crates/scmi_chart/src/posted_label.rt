@@ -3,12 +3,12 @@
 use crate::fields::add_fields;
 use crate::label::{name_label, name_of, plain_label};
 use crate::label_texts::{COMPLETED, FAILED};
+use crate::mark::Label;
 use crate::reply_label::status_words;
 use crate::value::{Value, filled_words};
 use scmi_codec::Message;
 use scmi_describe::{delayed_fields, notification_fields, notification_name};
 use scmi_plan::RawPlan;
-use scmi_svg::Label;
 use std::alloc::{AllocError, Global};
 
 /// What a delayed response or a notification reports.

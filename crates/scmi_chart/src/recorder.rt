@@ -4,6 +4,7 @@ ghost use Rattle.scmi_plan.specs.RawPlan.{asked_board};
 ghost use Rattle.scmi_chart.specs.Signs.{sign_of};
 ghost use Rattle.scmi_chart.specs.Shown.{nothing_shown, shown_after, head_of, heads_from};
 
+use crate::chart::{Chart, Step as Row};
 use crate::levels::Levels;
 use crate::lifelines::lifelines_of;
 use crate::marks::Marks;
@@ -12,7 +13,6 @@ use crate::sign::{lane, raw_token};
 use scmi_board::TextLine;
 use scmi_core::Core;
 use scmi_plan::RawPlan;
-use scmi_svg::{Chart, Step as Row};
 use scmi_text::{Step, StepLine};
 use std::alloc::{AllocError, Global};
 use std::marker::Model;

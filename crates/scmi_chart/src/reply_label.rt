@@ -3,12 +3,12 @@
 use crate::fields::add_fields;
 use crate::label::{name_label, plain_label};
 use crate::label_texts::{CHANNEL_ERROR, NO_STATUS, PENDING, PROTOCOLS, RATES, RELEASED, TRIPLET};
+use crate::mark::{Label, Outcome};
 use crate::value::{Value, filled_words};
 use crate::words::{counted_words, hex_words, payload_words};
 use scmi_codec::{Answer, CLOCK_PROTOCOL, Header, Message, Status};
 use scmi_describe::{reply_fields, status_name};
 use scmi_plan::RawPlan;
-use scmi_svg::{Label, Outcome};
 use std::alloc::{AllocError, Global};
 
 /// What an answer reports.

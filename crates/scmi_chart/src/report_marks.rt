@@ -4,10 +4,10 @@ ghost use Rattle.scmi_chart.specs.Signs.{reported_signs};
 ghost use Rattle.scmi_chart.specs.Shown.{adds};
 
 use crate::board_names::{clock_name, domain_name};
+use crate::mark::{Mark, Side};
 use crate::recorder::Recorder;
 use crate::words::{rate_words, state_words, switch_word};
 use scmi_plan::{Effect, RawPlan};
-use scmi_svg::{Mark, Side};
 use scmi_text::Step;
 use std::alloc::{AllocError, Global};
 

@@ -4,8 +4,8 @@ ghost use Rattle.scmi_chart.specs.Signs.{restarted};
 ghost use Rattle.scmi_chart.specs.Shown.{adds};
 
 use crate::board_names::agent_name;
+use crate::mark::Mark;
 use crate::recorder::Recorder;
-use scmi_svg::Mark;
 use std::alloc::AllocError;
 
 impl<'a> Recorder<'a> {

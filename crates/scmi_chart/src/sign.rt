@@ -1,11 +1,11 @@
 //! What a step and its result determine of a mark: its lane, token, outcome and words.
 ghost use Rattle.std.specs.Prelude.{◌≡◌, if◌then◌else◌};
-ghost use Rattle.scmi_svg.specs.declared.mark.Outcome.TheVariants as Outcome;
+ghost use Rattle.scmi_chart.specs.declared.mark.Outcome.TheVariants as Outcome;
 ghost use Rattle.scmi_chart.specs.Signs.{detail_of, sign_of, lane, raw_token, reply_token, has_fault, outcome_of, posted_sign, sent};
 
+use crate::mark::{Mark, Message, Outcome};
 use scmi_codec::{Answer, Fault, Header, is_success};
 use scmi_link::Collected;
-use scmi_svg::{Mark, Message, Outcome};
 use scmi_text::{AgentStep, Step};
 
 /// The lifeline of an agent.

@@ -2,8 +2,8 @@
 ghost use Rattle.std.specs.Prelude.{◌≡◌, ◌↔◌, None, IfSome};
 ghost use Rattle.scmi_chart.specs.Standing.{IsLacking, IsStateOf, is_set_pending, power_state};
 
+use crate::chart::{Kind, State};
 use scmi_core::Core;
-use scmi_svg::{Kind, State};
 
 /// A power domain or clock by its number, or the outbox of an agent.
 #[derive(Clone, Copy)]

@@ -3,8 +3,8 @@ ghost use Rattle.std.specs.Prelude.{◌≡◌, ◌++◌, IfOk, OnOk};
 ghost use Rattle.scmi_chart.specs.Words.{hex_text, spaced_text, words_text};
 
 use crate::label_texts::{DISABLED, ENABLED, HEX, MORE, OFF, ON, SPACE};
+use crate::rate::write_rate;
 use crate::value::{Value, filled_words};
-use scmi_svg::write_rate;
 use std::alloc::{AllocError, Global};
 
 /// A power state.

@@ -1,7 +1,13 @@
 -- Why hardware refuses a change, and the status that says so to the agent (own).
-use Rattle.std.specs.Prelude.{Option, None, Some}
+use Rattle.std.specs.Prelude.{ℕ, List, Option, None, Some, map}
+use Rattle.std.specs.Borrow.{Bor}
+use Rattle.std.specs.List.{find}
+use Rattle.std.specs.Option.{option_and_then}
+use Rattle.std.specs.Str.{bytes_eq}
 use Rattle.scmi_codec.specs.declared.status.Status.{Status}
 use Rattle.scmi_codec.specs.declared.status.Status.TheVariants as status
+use Rattle.scmi_codec.specs.declared.status.StatusRow.{StatusRow}
+use Rattle.scmi_codec.specs.declared.status.TheConstants.{STATUSES}
 use Rattle.scmi_codec.specs.declared.fault.Fault.{Fault}
 use Rattle.scmi_codec.specs.declared.fault.Fault.TheVariants as fault
 
@@ -28,3 +34,15 @@ fault_of status.Success = None
 fault_of status.NotFound = None
 fault_of status.CommsError = None
 fault_of status.ProtocolError = None
+
+-- the name and the status of a row
+abbrev pub named : StatusRow (Bor (List ℕ)) → List ℕ × Status
+named row = (row.name.now, row.status)
+
+-- the fault of the first status that has this name, if hardware says it
+abbrev pub fault_in : List ℕ → List (List ℕ × Status) → Option Fault
+fault_in name rows = option_and_then (λ row. fault_of row.1) (find (λ row. bytes_eq row.0 name) rows)
+
+-- the names of the statuses
+abbrev pub named_statuses : List (List ℕ × Status)
+named_statuses = map (λ row. (row.name.now, row.status)) STATUSES

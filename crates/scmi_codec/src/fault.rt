@@ -1,8 +1,8 @@
 //! Why hardware refuses a change.
-ghost use Rattle.std.specs.Prelude.{◌≡◌, Some};
-ghost use Rattle.scmi_codec.specs.Fault.{fault_of, fault_status};
+ghost use Rattle.std.specs.Prelude.{◌≡◌, Some, map};
+ghost use Rattle.scmi_codec.specs.Fault.{fault_in, fault_of, fault_status, named, named_statuses};
 
-use crate::status::Status;
+use crate::status::{STATUSES, Status, StatusRow};
 
 /// Why the hardware refused a change: the status that the agent gets (own).
 #[derive(Clone, Copy, PartialEq, Eq, Debug)]
@@ -49,4 +49,25 @@ impl Fault {
             Status::Success | Status::NotFound | Status::CommsError | Status::ProtocolError => None,
         }
     }
+
+    /// The fault of a status, by its name in DEN0056B; `None` if no status has it, or one that says
+    /// nothing of the hardware.
+    pub fn of_name(name: &[u8]) -> Option<Fault>
+        ensures { result ≡ fault_in name.now named_statuses }
+    {
+        fault_in(&STATUSES, name)
+    }
+}
+
+/// The fault of the first row of a name.
+fn fault_in(mut rows: &[StatusRow<&'static str>], name: &[u8]) -> Option<Fault>
+    ensures { result ≡ fault_in name.now (map named rows.entry.now) }
+{
+    while let [row, rest @ ..] = rows {
+        if row.name.as_bytes() == name {
+            return Fault::of_status(row.status);
+        }
+        rows = rest;
+    }
+    None
 }

@@ -58,37 +58,3 @@ module _ {X : Type 0} (N k n : ℕ) (xs : List X) (starts : k < N) (fits : n ≤
         get_or-window N k n xs starts fits all (1 + i) d,
         get_or-window N _ (n - 1) xs next (omega arith) all i d,
       ))
-
--- a ring whose item at place k is kept beside it
-module _ {X : Type 0} (N k n : ℕ) (xs : List X) (f : X) (starts : k < N) (fits : n ≤ N) (all : length xs ≡ N) where
-  pub length-fronted : length (window k n (set xs k f)) ≡ n
-  length-fronted = length-window N k n (set xs k f) starts fits (length-set xs k f ∙ all)
-
-  -- what is written after the last item is added at the end
-  pub fronted-push : (x : X) → 0 < n → n < N → window k (n + 1) (set (set xs ((k + n) % N) x) k f) ≡ window k n (set xs k f) ++ x ∷ []
-  fronted-push x some room =
-      let other : (k + n) % N ≢ k = grind (arith, mod_wraps_once N (k + n) (omega (arith, starts, room))) in
-      ap (window k (n + 1)) (set_comm xs ((k + n) % N) k x f other)
-      ∙ window-push N k n (set xs k f) starts fits (length-set xs k f ∙ all) x room
-
-  -- without its first item it begins at the next place, whose item is kept beside it
-  pub fronted-pop : 1 < n → (d : X) → window ((k + 1) % N) (n - 1) (set xs ((k + 1) % N) (get_or xs ((k + 1) % N) d)) ≡ drop 1 (window k n (set xs k f))
-  fronted-pop more d =
-      let next : (k + 1) % N < N = grind (arith, mod_wraps_once N (k + 1) (omega arith)) in
-      let new = length-window N ((k + 1) % N) (n - 1) xs next (omega arith) all in
-      ap (window ((k + 1) % N) (n - 1)) (set-get_or xs ((k + 1) % N) d)
-      ∙ same_lists _ _ (simp length-drop (omega (arith, new, length-fronted))) (λ i e within. grind (
-        arith,
-        get_or-drop 1 (window k n (set xs k f)) i e,
-        mod-add-mod (k + 1) N i,
-        mod_wraps_once N (k + (1 + i)) (omega (arith, new, within)),
-        get_or-window N k n (set xs k f) starts fits (length-set xs k f ∙ all) (1 + i) e,
-        get_or-window N _ (n - 1) xs next (omega arith) all i e,
-        get_or-set_other xs k ((k + (1 + i)) % N) f e,
-      ))
-
--- the first item of all is kept beside the ring
-pub fronted-begin : {X : Type 0} (N k : ℕ) (xs : List X) (x : X) → k < N → length xs ≡ N → window k 1 (set xs k x) ≡ x ∷ []
-fronted-begin N k xs x starts all =
-    let place : (k + 0) % N ≡ k = grind (arith, mod_wraps_once N (k + 0) (omega (arith, starts))) in
-    ap (λ j. window k 1 (set xs j x)) (sym place) ∙ window-push N k 0 xs starts (omega arith) all x (omega (arith, starts))

@@ -61,5 +61,6 @@ pub use platform_core::Core;
 pub use said::{Said, Saying};
 pub use scmi_codec::Fault;
 pub use scmi_plan::Effect;
+pub use slot::Slot;
 pub use trace::Trace;
 pub use whole_channels::every_whole_channel;

@@ -7,31 +7,28 @@ ghost use Rattle.scmi_core.specs.declared.slot.TheConstants.{SLOT_WORDS};
 
 use crate::outboxes::OUTBOX_ROOM;
 use crate::slot::Slot;
-use scmi_codec::{Header, Message, set_payload};
+use scmi_codec::Header;
 use std::array;
 use std::marker::Model;
 
-/// At most `OUTBOX_ROOM` messages of at most `SLOT_WORDS` payload words, the oldest first. The
-/// oldest is whole, so that it can be shown in place; each of the others is in a slot.
+/// At most `OUTBOX_ROOM` messages of at most `SLOT_WORDS` payload words, the oldest first.
 #[derive(Debug, Drop)]
 pub struct MessageRing {
     slots: [Slot; OUTBOX_ROOM],
-    // The oldest message, which is not in its slot.
-    front: Message,
     // The place of the oldest.
     oldest: usize,
     count: usize,
 }
 
 impl Model for MessageRing {
-    ghost use Rattle.std.specs.Prelude.{List, length, set, ◌<◌, ◌≤◌, ◌≡◌};
+    ghost use Rattle.std.specs.Prelude.{List, length, ◌<◌, ◌≤◌, ◌≡◌};
     ghost use Rattle.scmi_codec.specs.declared.message.Message.{Message};
     ghost use Rattle.scmi_core.specs.Window.{window};
     ghost use Rattle.scmi_core.specs.declared.outboxes.TheConstants.{OUTBOX_ROOM};
 
     ghost Value = { List Message };
 
-    ghost view = { λ r. window r.oldest r.count (set r.slots r.oldest r.front) };
+    ghost view = { λ r. window r.oldest r.count r.slots };
 
     ghost invariant = { λ r. (r.oldest < OUTBOX_ROOM) × (r.count ≤ OUTBOX_ROOM)
         × (length r.slots ≡ OUTBOX_ROOM) };
@@ -44,7 +41,6 @@ impl MessageRing {
     {
         MessageRing {
             slots: array::from_fn(|_| Slot::new()),
-            front: Message::default(),
             oldest: 0,
             count: 0,
         }
@@ -59,13 +55,13 @@ impl MessageRing {
     }
 
     /// The oldest message.
-    pub fn first(&self) -> Option<&Message>
+    pub fn first(&self) -> Option<&Slot>
         ensures { option_copied result ≡ slice_get self.now 0 }
     {
         if self.count == 0 {
             None
         } else {
-            Some(&self.front)
+            Some(&self.slots[self.oldest])
         }
     }
 
@@ -76,7 +72,6 @@ impl MessageRing {
         'slots: for place in 0..OUTBOX_ROOM {
             self.slots[place].copy_from(&other.slots[place]);
         }
-        self.front.copy_from(&other.front);
         self.oldest = other.oldest;
         self.count = other.count;
     }
@@ -89,7 +84,7 @@ impl MessageRing {
             return false;
         }
         'messages: for index in 0..self.count {
-            if !is_same_message(&self.message(index), &other.message(index)) {
+            if !self.at(index).is_same(other.at(index)) {
                 return false;
             }
         }
@@ -97,16 +92,11 @@ impl MessageRing {
     }
 
     /// A message of the ring; the oldest has index 0.
-    fn message(&self, index: usize) -> Message
+    fn at(&self, index: usize) -> &Slot
         requires { index < length self.now }
-        ensures { slice_get self.now index ≡ Some result }
+        ensures { slice_get self.now index ≡ Some result.now }
     {
-        if index == 0 {
-            return self.front.copy();
-        }
-        let mut message = Message::default();
-        self.slots[(self.oldest + index) % OUTBOX_ROOM].copy_to(&mut message);
-        message
+        &self.slots[(self.oldest + index) % OUTBOX_ROOM]
     }
 
     /// Takes the oldest message off.
@@ -116,10 +106,6 @@ impl MessageRing {
     {
         self.oldest = (self.oldest + 1) % OUTBOX_ROOM;
         self.count -= 1;
-        if self.count > 0 {
-            let slot = self.slots[self.oldest].copy();
-            slot.copy_to(&mut self.front);
-        }
     }
 
     /// Takes all messages off.
@@ -135,29 +121,8 @@ impl MessageRing {
         requires few { length words.now ≤ SLOT_WORDS }
         ensures { self.new ≡ self.old ++ message_with header words.now ∷ [] }
     {
-        if self.count == 0 {
-            set_message(&mut self.front, header, words);
-            self.count = 1;
-        } else {
-            let place = (self.oldest + self.count) % OUTBOX_ROOM;
-            self.slots[place].set(header, words);
-            self.count += 1;
-        }
+        let place = (self.oldest + self.count) % OUTBOX_ROOM;
+        self.slots[place].set(header, words);
+        self.count += 1;
     }
-}
-
-/// Whether two messages are the same: in each field of the header, and in each payload word.
-fn is_same_message(a: &Message, b: &Message) -> bool
-    ensures { (result ≡ true) ↔ (a.now ≡ b.now) }
-{
-    a.header == b.header && a.payload.as_slice() == b.payload.as_slice()
-}
-
-/// Makes a message one of this header and these payload words, in place.
-fn set_message(message: &mut Message, header: Header, words: &[u32])
-    requires { length words.now ≤ SLOT_WORDS }
-    ensures { message.new ≡ message_with header words.now }
-{
-    message.header = header;
-    set_payload(&mut message.payload, words);
 }

@@ -10,7 +10,8 @@ ghost use Rattle.scmi_core.specs.declared.slot.TheConstants.{SLOT_WORDS};
 
 use crate::message_ring::MessageRing;
 use crate::pending_set::Setting;
-use scmi_codec::{Fault, Header, Message};
+use crate::slot::Slot;
+use scmi_codec::{Fault, Header};
 use scmi_plan::AGENTS;
 use std::marker::Model;
 
@@ -81,7 +82,7 @@ impl Outboxes {
     }
 
     /// The first message of an agent's outbox.
-    pub fn first(&self, agent: u32) -> Option<&Message>
+    pub fn first(&self, agent: u32) -> Option<&Slot>
         requires agent { IsAgent AGENTS agent }
         ensures { option_copied result ≡ slice_get (outbox_in self.now agent) 0 }
     {

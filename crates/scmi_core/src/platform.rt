@@ -12,6 +12,7 @@ ghost use Rattle.scmi_core.specs.declared.event.Event.TheVariants.{Command as Ca
 
 use crate::answered::Answered;
 use crate::core_error::CoreError;
+use crate::slot::Slot;
 use crate::tables::Tables;
 use scmi_codec::{Frame, Message};
 use scmi_plan::Plan;
@@ -124,14 +125,16 @@ impl Platform {
         ensures errors { IfErr result (λ e. e ≡ CoreError.NoAgent) }
     {
         self.check_agent(agent)?;
-        match self.first(agent) {
-            Some(message) => Ok(Some(message.copy())),
-            None => Ok(None),
-        }
+        let Some(slot) = self.first(agent) else {
+            return Ok(None);
+        };
+        let mut message = Message::default();
+        slot.copy_to(&mut message);
+        Ok(Some(message))
     }
 
     /// As `front`, for an agent of the board, and without a copy.
-    pub fn first(&self, agent: u32) -> Option<&Message>
+    pub fn first(&self, agent: u32) -> Option<&Slot>
         requires { IsAgent (length self.now.board.agents) agent }
         ensures { (h : List Event) → StandsAfter self.now h
             → option_copied result ≡ slice_get (outbox self.now.board agent h) 0 }

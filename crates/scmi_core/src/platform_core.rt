@@ -12,6 +12,7 @@ ghost use Rattle.scmi_core.specs.declared.event.Event.TheVariants.{Command as Ca
 use crate::answered::Answered;
 use crate::core_error::CoreError;
 use crate::platform::Platform;
+use crate::slot::Slot;
 use crate::trace::Trace;
 use scmi_codec::{Answer, Frame, Message};
 use scmi_plan::Plan;
@@ -183,7 +184,7 @@ impl Core {
     }
 
     /// As `front`, for an agent of the board, and without a copy; so it is never refused.
-    pub fn first(&self, agent: u32) -> Option<&Message>
+    pub fn first(&self, agent: u32) -> Option<&Slot>
         requires { IsAgent (length self.now.board.agents) agent }
         ensures { option_copied result
             ≡ slice_get (outbox self.now.board agent self.now.history) 0 }

@@ -1,5 +1,5 @@
 //! A message of the platform, in as few words as it can have.
-ghost use Rattle.std.specs.Prelude.{◌≡◌, ◌≤◌, length};
+ghost use Rattle.std.specs.Prelude.{◌≡◌, ◌≤◌, ◌↔◌, length, true};
 ghost use Rattle.scmi_core.specs.Outbox.{message_with};
 ghost use Rattle.scmi_core.specs.declared.slot.TheConstants.{SLOT_WORDS};
 
@@ -9,7 +9,7 @@ use std::marker::Model;
 /// The most payload words of a message of the platform to an agent.
 pub const SLOT_WORDS: usize = 4;
 
-/// A message of at most `SLOT_WORDS` payload words. Contracts see it as a message.
+/// A message of at most `SLOT_WORDS` payload words, in an outbox. Contracts see it as a message.
 #[derive(Debug, Drop)]
 pub struct Slot {
     header: Header,
@@ -50,15 +50,18 @@ impl Slot {
         self.words[..words.len()].copy_from_slice(words);
     }
 
-    /// The same message again.
-    pub fn copy(&self) -> Slot
-        ensures { result ≡ self.now }
+    /// Whether another message is the same: in each field of the header, and in each word.
+    pub fn is_same(&self, other: &Slot) -> bool
+        ensures { (result ≡ true) ↔ (self.now ≡ other.now) }
     {
-        Slot {
-            header: self.header,
-            count: self.count,
-            words: self.words,
-        }
+        self.header == other.header && self.words() == other.words()
+    }
+
+    /// The payload words.
+    fn words(&self) -> &[u32]
+        ensures { result.now ≡ self.now.payload.items }
+    {
+        &self.words[..usize::from(self.count)]
     }
 
     /// Becomes the same message as another.
@@ -75,6 +78,6 @@ impl Slot {
         ensures { message.new ≡ self.now }
     {
         message.header = self.header;
-        set_payload(&mut message.payload, &self.words[..usize::from(self.count)]);
+        set_payload(&mut message.payload, self.words());
     }
 }

@@ -33,10 +33,11 @@ pub(crate) fn flush_one<C: Channel>(
     if C::outstanding(caller) {
         return Flushed::Waiting;
     }
-    let Some(message) = core.first(agent) else {
+    let Some(first) = core.first(agent) else {
         return Flushed::Nothing;
     };
-    match p2a.post(caller, message) {
+    first.copy_to(&mut buffers.reply);
+    match p2a.post(caller, &buffers.reply) {
         Ok(()) => {
             core.mark_sent(agent);
             Flushed::Posted

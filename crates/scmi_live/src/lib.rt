@@ -7,7 +7,6 @@
 //! listener's.
 #![tactic(auto)]
 
-mod faults;
 mod flags;
 mod form;
 mod hertz;

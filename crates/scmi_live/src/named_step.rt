@@ -6,14 +6,13 @@ ghost use Rattle.scmi_plan.specs.RawPlan.{asked_board};
 ghost use Rattle.scmi_text.specs.Step.{IsStepOf, step_agent};
 ghost use Rattle.scmi_live.specs.NamedStep.{agent_of, alone, malformed_of, named_step, raw_of, refused_of, report_of, step_behind, step_of_agent, step_of_words};
 
-use crate::faults::fault_in;
 use crate::form::{FORMS, Form, form_in};
 use crate::named::number_from;
 use crate::named_call::call_of;
 use crate::payload::numbers;
 use crate::reports::{REPORT, effect_of};
 use scmi_board::word;
-use scmi_codec::{Fault, Header, Message, STATUSES};
+use scmi_codec::{Fault, Header, Message};
 use scmi_plan::RawPlan;
 use scmi_text::{AgentStep, Step};
 
@@ -131,7 +130,7 @@ fn refused_of(board: &RawPlan, agent: u32, items: &[&[u8]]) -> Option<Step>
 {
     match items {
         [status, rest @ ..] => {
-            let fault = fault_in(&STATUSES, *status)?;
+            let fault = Fault::of_name(status)?;
             let call = call_of(board, rest)?;
             Some(Step::Fail { agent, fault, call })
         }

@@ -1,17 +1,11 @@
 -- What the lines of scripts have behind their first word.
 use Rattle.std.specs.Prelude.{ℕ, ◌&&◌, Bool, nat_eq, nat_le, nat_lt, ◌++◌, if◌then◌else◌, List, [], ◌∷◌, length, map, Option, Some, None}
-use Rattle.std.specs.Borrow.{Bor}
-use Rattle.std.specs.List.{find}
-use Rattle.std.specs.Str.{bytes_eq}
 use Rattle.scmi_board.specs.Items.{◌>>=◌, ItemsView, first_item, first_number}
 use Rattle.scmi_board.specs.Number.{number_of}
 use Rattle.scmi_board.specs.Rows.{after_each}
-use Rattle.scmi_codec.specs.Fault.{fault_of}
+use Rattle.scmi_codec.specs.Fault.{fault_in, named_statuses}
 use Rattle.scmi_codec.specs.declared.fault.Fault.{Fault}
 use Rattle.scmi_codec.specs.declared.payload.TheConstants.{PAYLOAD_WORDS}
-use Rattle.scmi_codec.specs.declared.status.Status.{Status}
-use Rattle.scmi_codec.specs.declared.status.StatusRow.{StatusRow}
-use Rattle.scmi_codec.specs.declared.status.TheConstants.{STATUSES}
 
 -- the number of an agent, from 1 to `agents`, which is how many the board has
 unfoldable pub first_agent : ℕ → ItemsView → Option (ℕ × ItemsView)
@@ -25,18 +19,6 @@ first_message view = do
   protocol ← first_number 8 view
   id ← first_number 8 protocol.1
   Some ((protocol.0, id.0), id.1)
-
--- the name and the status of a row
-abbrev pub named : StatusRow (Bor (List ℕ)) → List ℕ × Status
-named row = (row.name.now, row.status)
-
--- the fault of the first status that has this name, if hardware says it
-abbrev pub fault_in : List ℕ → List (List ℕ × Status) → Option Fault
-fault_in name rows = find (λ row. bytes_eq row.0 name) rows >>= λ row. fault_of row.1
-
--- the names of the statuses
-abbrev pub named_statuses : List (List ℕ × Status)
-named_statuses = map (λ row. (row.name.now, row.status)) STATUSES
 
 -- a status that hardware says, by its name
 unfoldable pub first_named_fault : ItemsView → Option (Fault × ItemsView)

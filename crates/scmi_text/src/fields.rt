@@ -4,12 +4,12 @@ ghost use Rattle.scmi_board.specs.Items.{items_left};
 ghost use Rattle.scmi_board.specs.LineError.{Gives, GivesUnless};
 ghost use Rattle.scmi_codec.specs.declared.payload.TheConstants.{PAYLOAD_WORDS};
 ghost use Rattle.scmi_plan.specs.Agent.{IsAgent};
-ghost use Rattle.scmi_text.specs.Fields.{fault_in, first_agent, first_flag, first_message, first_named_fault, named, payload_left};
+ghost use Rattle.scmi_text.specs.Fields.{first_agent, first_flag, first_message, first_named_fault, payload_left};
 ghost use Rattle.scmi_text.specs.PackedStep.{IsStartOf};
 
 use arrayvec::ArrayVec;
 use scmi_board::{Items, LineError};
-use scmi_codec::{Fault, PAYLOAD_WORDS, Payload, STATUSES, StatusRow};
+use scmi_codec::{Fault, PAYLOAD_WORDS, Payload};
 
 /// The next item as the number of an agent of a board that has this many, numbered from 1. `Form`
 /// if it is not such a number.
@@ -45,20 +45,7 @@ pub(crate) fn read_named_fault(items: &mut Items<'_>) -> Result<Fault, LineError
         (first_named_fault (items_left items.old)) }
 {
     let name = items.next_item()?;
-    fault_in(&STATUSES, name)
-}
-
-/// The fault of the first row of a name.
-fn fault_in(mut rows: &[StatusRow<&'static str>], name: &[u8]) -> Result<Fault, LineError>
-    ensures { Gives (λ fault. fault) result (fault_in name.now (map named rows.entry.now)) }
-{
-    while let [row, rest @ ..] = rows {
-        if row.name.as_bytes() == name {
-            return Fault::of_status(row.status).ok_or(LineError::Form);
-        }
-        rows = rest;
-    }
-    Err(LineError::Form)
+    Fault::of_name(name).ok_or(LineError::Form)
 }
 
 /// The next item as a number that is 0 or 1.

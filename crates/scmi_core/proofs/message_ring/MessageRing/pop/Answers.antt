@@ -1,13 +1,12 @@
-use Rattle.std.proofs.Common.{◌≡◌, ◌+◌, ◌-◌, ◌%◌, get_or, set, drop, ap, ◌∙◌, arith}
-use Rattle.scmi_core.specs.Window.{window}
-use Rattle.scmi_core.proofs.Windows.{fronted-pop}
+use Rattle.std.proofs.Common.{◌<◌, length, drop, ap, ◌∙◌, arith}
+use Rattle.scmi_core.proofs.Windows.{length-window, window-pop}
 use Rattle.scmi_core.proofs.message_ring.MessageRing.pop.Goals as goal
 
-pub returns-then-self-gt0 : goal.returns-then-self-gt0
-returns-then-self-gt0 c =
+pub returns : goal.returns
+returns c =
     let r = c.self.inside in
-    let next = (r.oldest + 1) % 16 in
-    let moved : c.copy_to.new.message ≡ get_or r.slots next c.index-self-self.result = c.copy_to.ensures ∙ c.copy-slot.ensures in
-    ap (λ f. window next (r.count - 1) (set r.slots next f)) moved
-    ∙ fronted-pop 16 r.oldest r.count r.slots r.front c.self.invariant.0 c.self.invariant.1 c.self.invariant.2 (omega (arith, c.if-self-gt0.true)) c.index-self-self.result
+    let old = length-window 16 r.oldest r.count r.slots c.self.invariant.0 c.self.invariant.1 c.self.invariant.2 in
+    let same = ap length c.self.view_is in
+    let some : 0 < r.count = omega (arith, c.requires, old, same) in
+    window-pop 16 r.oldest r.count r.slots c.self.invariant.0 c.self.invariant.1 c.self.invariant.2 some
     ∙ ap (drop 1) c.self.view_is

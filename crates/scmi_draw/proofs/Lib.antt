@@ -1,4 +1,0 @@
-mod Histories
-mod Inputs
-mod Signs
-pub mod SoFar

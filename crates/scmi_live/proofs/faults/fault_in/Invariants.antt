@@ -1,9 +1,0 @@
-use Rattle.std.proofs.Common.{◌≡◌, map, length}
-use Rattle.scmi_text.specs.Fields.{fault_in, named}
-use Rattle.scmi_live.proofs.faults.fault_in.Given as goal
-
-abbrev pub invariant-loop-rows : goal.invariant-loop-rows
-invariant-loop-rows l = fault_in l.name (map named l.rows) ≡ fault_in l.name (map named l.initial.rows)
-
-abbrev pub decreases-loop-rows : goal.decreases-loop-rows
-decreases-loop-rows l = length l.rows

@@ -1,2 +1,0 @@
-pub mod EscapeLemmas
-mod Examples

@@ -1,4 +1,0 @@
-pub mod Escape
-pub mod Rate
-pub mod DiagramValue
-pub mod Diagram
