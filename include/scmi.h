@@ -171,12 +171,16 @@ uint32_t scmi_platform_new_recorded(scmi_platform *SCMI_ALONE platform, const ui
  */
 #define SCMI_NAME_ROOM 16
 
-/* The board's vendor and sub-vendor, the version of its firmware, and the number of its trusted agent. */
+/*
+ * The board's vendor and sub-vendor, the version of its firmware, and the number of its trusted agent. A board may lack
+ * power domains (0x11) or clocks (0x14), and have protocols of its firmware.
+ */
 typedef struct scmi_board_heading {
     char vendor[SCMI_NAME_ROOM];
     char sub_vendor[SCMI_NAME_ROOM];
     uint32_t version;
     uint32_t trusted;
+    uint8_t protocols[16]; /* the ids besides the base protocol, which rise, then zeros; all 0: 0x11 and 0x14 */
 } scmi_board_heading;
 
 /*
@@ -257,8 +261,8 @@ uint32_t scmi_platform_new_of_tables(scmi_platform *SCMI_ALONE platform, const s
  * As scmi_platform_new, of a board's tables: a program that calls no other making has no reader of texts in it. A table
  * without rows may be null. Nothing of the tables is needed once it has returned. SCMI_DONE, SCMI_IN_USE, SCMI_TABLE
  * (a name without its zero, with a byte that is not ASCII, or with any but zeros after the first; a list of rates
- * beyond the table; a size that no channel has; more than 8 pending sets; or a device denied that is beyond the table),
- * SCMI_MEMORY or SCMI_RULE + N.
+ * beyond the table; a size that no channel has; more than 8 pending sets; a device denied that is beyond the table; or
+ * protocols that do not rise from 0x11, or have any but zeros after them), SCMI_MEMORY or SCMI_RULE + N.
  */
 static inline uint32_t scmi_platform_new_of(scmi_platform *platform, const scmi_board *board)
 {
@@ -281,7 +285,7 @@ static inline uint32_t scmi_platform_new_of(scmi_platform *platform, const scmi_
 #define SCMI_PLATFORM_BYTES(agents, domains, clocks, rates, devices) \
     (SCMI_PLATFORM_ALONE + 24 * (size_t)(agents) + 32 * (size_t)(domains) + 72 * (size_t)(clocks) + \
      8 * (size_t)(rates) + 8 * (size_t)(devices))
-#define SCMI_PLATFORM_ALONE ((size_t)5848)
+#define SCMI_PLATFORM_ALONE ((size_t)5872)
 
 static inline size_t scmi_platform_bytes(const scmi_board *board)
 {
@@ -495,7 +499,7 @@ SCMI_HOLDS(offsetof(scmi_area, header) == SCMI_AREA_HEADER, "the place of the he
 SCMI_HOLDS(offsetof(scmi_area, payload) == SCMI_AREA_PAYLOAD, "the place of the payload");
 SCMI_HOLDS(sizeof(scmi_platform) == sizeof(void *), "the size of a handle");
 SCMI_HOLDS(sizeof(scmi_channel_numbers) == 8, "the size of a channel's numbers");
-SCMI_HOLDS(sizeof(scmi_board_heading) == 40, "the size of a heading");
+SCMI_HOLDS(sizeof(scmi_board_heading) == 56, "the size of a heading");
 SCMI_HOLDS(sizeof(scmi_board_agent) == 40, "the size of an agent's row");
 SCMI_HOLDS(offsetof(scmi_board_agent, denied_clocks) == 36, "the place of an agent's last mask");
 SCMI_HOLDS(sizeof(scmi_board_domain) == 40, "the size of a domain's row");

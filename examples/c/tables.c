@@ -2,13 +2,14 @@
  * Tables that are refused, each with its number, and nothing changed; boards in blocks of the bytes that are said to be
  * enough; and what tables keep, deny, share, leave out and free, beside the same board without it.
  */
+#include <stdarg.h>
 #include <stdio.h>
 #include <string.h>
 
 #include "area.h"
 #include "scmi_memory.h"
 
-enum { AGENTS = 9, ROWS = 33, LIST = 65 };
+enum { AGENTS = 9, ROWS = 33, LONG = 65 };
 
 /* A valid board, which each case changes in one place. */
 static scmi_board_agent agents[AGENTS];
@@ -83,6 +84,18 @@ static void unended(char *of)
     memset(of, 'x', SCMI_NAME_ROOM);
 }
 
+/* So many ids of protocols. */
+static void ids(int count, ...)
+{
+    va_list given;
+    int i;
+
+    va_start(given, count);
+    for (i = 0; i < count; i++)
+        board.heading.protocols[i] = (uint8_t)va_arg(given, int);
+    va_end(given);
+}
+
 static void malformed(void)
 {
     fill(1, 2, 3), unended(board.heading.vendor), is("a vendor without its zero", SCMI_TABLE);
@@ -113,6 +126,11 @@ static void malformed(void)
     fill(1, 2, 3), agents[0].denied_clocks = 4, is("for the clock protocol", SCMI_TABLE);
     fill(1, 0, 0), agents[0].denied = 1, is("device 0 where there is none", SCMI_TABLE);
     fill(1, ROWS - 1, 1), agents[0].denied = 0xffffffff, is("all of 32 devices", SCMI_DONE);
+    fill(1, 2, 3), ids(2, 0x14, 0x11), is("protocols that fall", SCMI_TABLE);
+    fill(1, 2, 3), ids(2, 0x11, 0x11), is("a protocol twice", SCMI_TABLE);
+    fill(1, 2, 3), ids(2, 0x10, 0x11), is("the base protocol", SCMI_TABLE);
+    fill(1, 2, 3), ids(3, 0x11, 0, 0x14), is("a protocol behind a zero", SCMI_TABLE);
+    fill(1, 2, 3), ids(3, 0x11, 0x14, 0xff), is("protocols that rise", SCMI_DONE);
     fill(AGENTS, 2, 3), agents[8].bytes = 1, is("before any rule", SCMI_TABLE);
 }
 
@@ -126,7 +144,7 @@ static void invalid(void)
     fill(1, 2, 3), rates[1] = rates[0], is("rates that do not rise", SCMI_RULE + 3);
     fill(1, 2, 0), clocks[0].step = 0, is("steps of 0", SCMI_RULE + 3);
     fill(1, 2, 0), clocks[0].rate = 2, is("a start beside the steps", SCMI_RULE + 3);
-    fill(1, 1, LIST), is("65 rates", SCMI_RULE + 3);
+    fill(1, 1, LONG), is("65 rates", SCMI_RULE + 3);
     fill(1, 2, 3), devices[1].clocks = 4, is("a device with clock 2 of 0 and 1", SCMI_RULE + 4);
     fill(1, 2, 3), board.heading.trusted = 2, is("agent 2 of 1 trusted", SCMI_RULE + 5);
 }
@@ -146,9 +164,11 @@ static void channel(const char *says, uint32_t bytes, uint32_t one_way)
 
 enum { ON = 0, OFF = 0x40000000 };
 /* Headers of the base, the power and the clock protocol. */
-enum { SET_PROTOCOL = 0x400a, RESET = 0x400b };
+enum { BASE = 0x4001, LIST = 0x4006, SET_PROTOCOL = 0x400a, RESET = 0x400b };
 enum { DOMAIN = 0x4403, SET_STATE = 0x4404, GET_STATE = 0x4405, NOTIFY = 0x4406 };
 enum { ATTRIBUTES = 0x5001, CLOCK = 0x5003, RATES = 0x5004, SET_RATE = 0x5005, GET_RATE = 0x5006, CONFIG = 0x5007 };
+/* Of a protocol of the firmware. */
+enum { FIRMWARE = 0x20001 };
 
 /* Agent 0 is for the first pending set, which completes. */
 struct command {
@@ -204,6 +224,22 @@ static const struct command of_numbers[] = {
     { 1, RATES, 2, { 1, 0 } }
 };
 
+/* The board has power domains, and protocols of its firmware from 0x80 on, and no clocks. */
+static const struct command of_protocols[] = {
+    { 1, BASE, 0, { 0 } },
+    { 1, LIST, 1, { 0 } },
+    { 1, LIST, 1, { 1 } },
+    { 1, LIST, 1, { 6 } },
+    { 1, LIST, 1, { 7 } },
+    { 1, GET_STATE, 1, { 1 } },
+    { 1, GET_RATE, 1, { 1 } },
+    { 1, GET_RATE, 0, { 0 } },               /* before its words */
+    { 1, FIRMWARE, 1, { 7 } },
+    { 1, SET_PROTOCOL, 4, { 2, 0, 0x14, 0 } },
+    { 1, SET_PROTOCOL, 4, { 2, 0, 0x80, 0 } },
+    { 1, SET_PROTOCOL, 4, { 2, 0, 0x11, 0 } }
+};
+
 static void fill_said(void)
 {
     fill(4, 2, 3);
@@ -243,6 +279,8 @@ static void said(void)
     answer("left out and freed", of_numbers, sizeof(of_numbers) / sizeof(*of_numbers));
     fill_said();
     answer("without it", of_numbers, sizeof(of_numbers) / sizeof(*of_numbers));
+    fill_said(), ids(6, 0x11, 0x80, 0x81, 0x82, 0x83, 0x84);
+    answer("of these protocols", of_protocols, sizeof(of_protocols) / sizeof(*of_protocols));
 }
 
 /* A board in as many bytes as are said to be enough, and in a block of none. */

@@ -201,15 +201,27 @@ static bool add_clock(unsigned int agent, uint32_t id)
     return true;
 }
 
-/* Protocols that the library has not: agents are answered NOT_SUPPORTED. */
-static void say_protocols(unsigned int agent)
+/*
+ * The board has those of its hooks' protocols that the library has. Agents are answered NOT_SUPPORTED for the others,
+ * which are said.
+ */
+static void add_protocols(unsigned int agent)
 {
     const uint8_t *protocol = plat_scmi_protocol_list(agent);
+    bool has_power = false, has_clocks = false;
+    size_t at = 0;
 
-    for (; protocol != NULL && *protocol != 0; protocol++)
+    for (; protocol != NULL && *protocol != 0; protocol++) {
+        has_power |= *protocol == SCMI_PROTOCOL_ID_POWER_DOMAIN;
+        has_clocks |= *protocol == SCMI_PROTOCOL_ID_CLOCK;
         if (*protocol != SCMI_PROTOCOL_ID_BASE && *protocol != SCMI_PROTOCOL_ID_POWER_DOMAIN &&
             *protocol != SCMI_PROTOCOL_ID_CLOCK)
             ERROR("SCMI: agent %u: protocol 0x%x is not supported\n", agent, *protocol);
+    }
+    if (has_power)
+        board.heading.protocols[at++] = SCMI_PROTOCOL_ID_POWER_DOMAIN;
+    if (has_clocks)
+        board.heading.protocols[at++] = SCMI_PROTOCOL_ID_CLOCK;
 }
 
 static void add_agents(const struct scmi_msg_channel *channel)
@@ -234,7 +246,7 @@ const scmi_board *scmi_service_board(unsigned int agent_id, const struct scmi_ms
                           .rates = tables.rates };
     give_name(board.heading.vendor, "vendor", plat_scmi_vendor_name());
     give_name(board.heading.sub_vendor, "sub-vendor", plat_scmi_sub_vendor_name());
-    say_protocols(agent_id);
+    add_protocols(agent_id);
     add_agents(channel);
     board.domain_count = served(agent_id, "domain", plat_scmi_pd_count(agent_id), SCMI_PORT_DOMAINS,
                                 plat_scmi_pd_get_name);

@@ -17,5 +17,6 @@ IsLineOf-prop board (said.Keep kept) = IsOnBoard-prop board kept
 IsLineOf-prop board (said.Deny line) = Prim.hlevel logic.props
 IsLineOf-prop board (said.Absent absent) = IsOnBoard-prop board absent
 IsLineOf-prop board (said.Free c) = Prim.hlevel logic.props
+IsLineOf-prop board (said.Protocols ids) = Prim.hlevel logic.props
 
 pub ruleset line_props = (logic.props, IsLineOf-prop)

@@ -1,21 +1,16 @@
 -- The replies of the base protocol (DEN0056B, base protocol), 0x10.
-use Rattle.std.specs.Prelude.{ℕ, ◌+◌, ◌-◌, ◌*◌, ◌%◌, ◌==◌, ◌||◌, Bool, not, nat_lt, nat_le, if◌then◌else◌, List, [], ◌∷◌, length, drop, get_or, codes}
-use Rattle.byteorder.specs.Endian.{little_number}
+use Rattle.std.specs.Prelude.{ℕ, ◌+◌, ◌-◌, ◌*◌, ◌/◌, ◌%◌, ◌==◌, ◌&&◌, ◌||◌, Bool, not, nat_lt, nat_le, if◌then◌else◌, List, [], ◌∷◌, length, drop, take, get_or, codes}
 use Rattle.scmi_codec.specs.Listing.{is_listed}
 use Rattle.scmi_codec.specs.declared.base_command.BaseCommand.{BaseCommand}
 use Rattle.scmi_codec.specs.declared.base_command.BaseCommand.TheVariants as base
 use Rattle.scmi_codec.specs.declared.status.Status.TheVariants.{NotFound, InvalidParameters, Denied}
-use Rattle.scmi_plan.specs.Board.{Board}
-use Rattle.scmi_codec.specs.Name.{name_words}
+use Rattle.scmi_plan.specs.Board.{Board, serves}
+use Rattle.scmi_codec.specs.Name.{four_words, name_words}
 use Rattle.scmi_codec.specs.Reply.{Check, reply_unless, other_bits}
 
--- the protocols besides this one, in rising order: power domains and clocks
-abbrev pub protocols : List ℕ
-protocols = 0x11 ∷ 0x14 ∷ []
-
--- up to four bytes in one word, and no word if there is none
+-- the ids of at most sixteen protocols, four to a word, the first lowest
 abbrev pub packed_words : List ℕ → List ℕ
-packed_words bytes = if length bytes == 0 then [] else little_number 4 bytes ∷ []
+packed_words ids = take ((length ids + 3) / 4) (four_words ids)
 
 -- the board has no such agent; they are numbered from 1
 abbrev pub no_agent : Board → ℕ → Bool
@@ -41,14 +36,15 @@ trusted_checks board caller flags = (other_bits flags, InvalidParameters) ∷ (n
 abbrev pub permit_checks : Board → ℕ → ℕ → ℕ → ℕ → List Check
 permit_checks board caller agent device flags = (no_agent board agent, NotFound) ∷ (no_device board device, NotFound) ∷ trusted_checks board caller flags
 
--- the low eight bits of a word are the id of no protocol with resources
-abbrev pub no_protocol : ℕ → Bool
-no_protocol word = not (word % 0x100 == 0x11 || word % 0x100 == 0x14)
+-- the low eight bits of a word are the id of no protocol with resources that the board has
+abbrev pub no_protocol : Board → ℕ → Bool
+no_protocol board word =
+    not ((word % 0x100 == 0x11 || word % 0x100 == 0x14) && serves board (word % 0x100))
 
 -- the checks of 0xA, in order (own)
 abbrev pub permit_protocol_checks : Board → ℕ → ℕ → ℕ → ℕ → ℕ → List Check
 permit_protocol_checks board caller agent device protocol flags =
-    (no_agent board agent, NotFound) ∷ (no_device board device, NotFound) ∷ (no_protocol protocol, NotFound)
+    (no_agent board agent, NotFound) ∷ (no_device board device, NotFound) ∷ (no_protocol board protocol, NotFound)
     ∷ (nat_lt 0xFF protocol, InvalidParameters) ∷ trusted_checks board caller flags
 
 -- the checks of 0xB, in order (own)
@@ -59,10 +55,11 @@ reset_checks board caller agent flags = (no_agent board agent, NotFound) ∷ tru
 abbrev pub message_reply : ℕ → List ℕ
 message_reply message = reply_unless ((not (is_listed 0x10 message), NotFound) ∷ []) (0 ∷ 0 ∷ [])
 
--- the reply to 0x6: how many protocols follow the skipped ones, and their ids
-abbrev pub protocols_reply : ℕ → List ℕ
-protocols_reply skip =
-    reply_unless ((nat_lt (length protocols) skip, InvalidParameters) ∷ []) (0 ∷ length (drop skip protocols) ∷ packed_words (drop skip protocols))
+-- the reply to 0x6: how many protocols besides this one follow the skipped ones, and their ids
+abbrev pub protocols_reply : List ℕ → ℕ → List ℕ
+protocols_reply ids skip =
+    reply_unless ((nat_lt (length ids) skip, InvalidParameters) ∷ [])
+    (0 ∷ length (drop skip ids) ∷ packed_words (drop skip ids))
 
 -- the reply to 0x7: the agent's id and name, the caller's own where it asks so (own)
 abbrev pub agent_reply : Board → ℕ → ℕ → List ℕ
@@ -73,12 +70,12 @@ agent_reply board caller agent =
 -- the reply to a command of a caller (DEN0056B, base protocol)
 unfoldable pub base_reply : Board → ℕ → BaseCommand → List ℕ
 base_reply board caller base.Version = 0 ∷ 0x00020000 ∷ []
-base_reply board caller base.Attributes = 0 ∷ (length board.agents * 0x100 + length protocols) ∷ []
+base_reply board caller base.Attributes = 0 ∷ (length board.agents * 0x100 + length board.protocols) ∷ []
 base_reply board caller (base.MessageAttributes message) = message_reply message
 base_reply board caller base.Vendor = 0 ∷ name_words board.vendor
 base_reply board caller base.SubVendor = 0 ∷ name_words board.sub_vendor
 base_reply board caller base.Implementation = 0 ∷ board.version ∷ []
-base_reply board caller (base.Protocols skip) = protocols_reply skip
+base_reply board caller (base.Protocols skip) = protocols_reply board.protocols skip
 base_reply board caller (base.Agent agent) = agent_reply board caller agent
 base_reply board caller (base.Permit agent device flags) = reply_unless (permit_checks board caller agent device flags) (0 ∷ [])
 base_reply board caller (base.PermitProtocol agent device protocol flags) = reply_unless (permit_protocol_checks board caller agent device protocol flags) (0 ∷ [])

@@ -109,7 +109,7 @@ impl BaseState {
             BaseCommand::Vendor => set_name(plan.vendor(), reply),
             BaseCommand::SubVendor => set_name(plan.sub_vendor(), reply),
             BaseCommand::Implementation => implementation(plan, reply),
-            BaseCommand::Protocols { skip } => protocols(skip, reply),
+            BaseCommand::Protocols { skip } => protocols(plan, skip, reply),
             BaseCommand::Agent { agent } => agent_of(plan, caller, agent, reply),
             BaseCommand::Permit {
                 agent,

@@ -53,7 +53,7 @@ pub(crate) fn check_permit_protocol(
 {
     check_agent(plan, agent)?;
     check_device(plan, device)?;
-    let scope = check_protocol(protocol)?;
+    let scope = check_protocol(plan, protocol)?;
     check_id_alone(protocol)?;
     let allow = single_flag(flags)?;
     check_trusted(plan, caller)?;
@@ -96,18 +96,22 @@ fn check_device(plan: &Plan, device: u32) -> Result<(), Status>
     Ok(())
 }
 
-/// NOT_FOUND if the low eight bits of a word are not the id of a protocol with resources.
-fn check_protocol(word: u32) -> Result<Scope, Status>
-    ensures { result ≡ (if no_protocol word then Err NotFound else Ok (protocol_named word)) }
+/// NOT_FOUND if the low eight bits of a word are not the id of a protocol with resources that the
+/// board has.
+fn check_protocol(plan: &Plan, word: u32) -> Result<Scope, Status>
+    ensures { result
+        ≡ (if no_protocol plan.now word then Err NotFound else Ok (protocol_named word)) }
 {
-    let id = word % 0x100;
-    if id == u32::from(POWER_PROTOCOL) {
-        Ok(Scope::Power)
-    } else if id == u32::from(CLOCK_PROTOCOL) {
-        Ok(Scope::Clock)
-    } else {
-        Err(Status::NotFound)
+    let id = (word % 0x100) as u8;
+    let scope = match id {
+        POWER_PROTOCOL => Scope::Power,
+        CLOCK_PROTOCOL => Scope::Clock,
+        _ => return Err(Status::NotFound),
+    };
+    if !plan.serves(id) {
+        return Err(Status::NotFound);
     }
+    Ok(scope)
 }
 
 /// INVALID_PARAMETERS if a word has more than a protocol's id in its low eight bits.

@@ -1,21 +1,16 @@
 //! The replies to the commands of discovery, which change nothing.
 ghost use Rattle.std.specs.Prelude.{◌≡◌, ◌≤◌, ◌<◌, ◌+◌, ◌-◌, ◌*◌, ◌∷◌, [], length};
-ghost use Rattle.byteorder.specs.Endian.{little_number};
-ghost use Rattle.scmi_base.specs.BaseReply.{message_reply, protocols_reply, agent_reply, agent_name};
+ghost use Rattle.scmi_base.specs.BaseReply.{message_reply, packed_words, protocols_reply, agent_reply, agent_name};
 ghost use Rattle.scmi_codec.specs.Name.{name_words};
 
-use byteorder::{ByteOrder, LittleEndian};
 use scmi_codec::{
-    BASE_PROTOCOL, CLOCK_PROTOCOL, Name, POWER_PROTOCOL, Payload, SUCCESS, Status, is_listed,
-    name_words, set_payload, set_refusal,
+    BASE_PROTOCOL, Name, Payload, SUCCESS, Status, four_words, is_listed, name_words, set_payload,
+    set_refusal,
 };
 use scmi_plan::Plan;
 
 /// The version of the base protocol: major 2, minor 0.
 const VERSION: u32 = 0x0002_0000;
-
-/// The protocols besides this one: power domains and clocks.
-const PROTOCOLS: [u8; 2] = [POWER_PROTOCOL, CLOCK_PROTOCOL];
 
 /// The agent id by which a caller asks for itself.
 const THE_CALLER: u32 = 0xffff_ffff;
@@ -36,11 +31,14 @@ pub(crate) fn version(reply: &mut Payload)
 /// 0x1: the number of agents in bits [15:8], the platform not counted (own), and the number of
 /// protocols in [7:0].
 pub(crate) fn attributes(plan: &Plan, reply: &mut Payload)
-    ensures { reply.new.items ≡ 0 ∷ (length plan.now.agents * 0x100 + 2) ∷ [] }
+    ensures { reply.new.items ≡ 0 ∷ (length plan.now.agents * 0x100 + length plan.now.protocols) ∷ [] }
 {
     set_payload(
         reply,
-        &[SUCCESS, plan.agents() << 8 | PROTOCOLS.len() as u32],
+        &[
+            SUCCESS,
+            plan.agents() * 0x100 + plan.protocols().len() as u32,
+        ],
     );
 }
 
@@ -70,29 +68,28 @@ pub(crate) fn implementation(plan: &Plan, reply: &mut Payload)
     set_payload(reply, &[SUCCESS, plan.version()]);
 }
 
-/// 0x6: the number of protocols after the first `skip`, and their ids in one word, left out if the
-/// number is 0; INVALID_PARAMETERS if there are fewer to skip.
-pub(crate) fn protocols(skip: u32, reply: &mut Payload)
-    ensures { reply.new.items ≡ protocols_reply skip }
+/// 0x6: the number of protocols after the first `skip`, and their ids, four to a word;
+/// INVALID_PARAMETERS if there are fewer to skip.
+pub(crate) fn protocols(plan: &Plan, skip: u32, reply: &mut Payload)
+    ensures { reply.new.items ≡ protocols_reply plan.now.protocols skip }
 {
-    let Some(listed) = PROTOCOLS.get(skip as usize..) else {
+    let Some(listed) = plan.protocols().get(skip as usize..) else {
         set_refusal(reply, Status::InvalidParameters);
         return;
     };
-    match listed {
-        [] => set_payload(reply, &[SUCCESS, 0]),
-        _ => set_payload(reply, &[SUCCESS, listed.len() as u32, packed_word(listed)]),
-    }
+    set_ids(listed, reply);
 }
 
-/// Up to four bytes in one word, the first lowest.
-fn packed_word(bytes: &[u8]) -> u32
-    requires { length bytes.now ≤ 4 }
-    ensures { result ≡ little_number 4 bytes.now }
+/// The number of ids and the ids, at most sixteen, four to a word.
+#[tactic(auto, using(crate::proofs::Ids::behind_two))]
+fn set_ids(ids: &[u8], reply: &mut Payload)
+    requires { length ids.now ≤ 16 }
+    ensures { reply.new.items ≡ 0 ∷ length ids.now ∷ packed_words ids.now }
 {
-    let mut word = [0u8; 4];
-    word[..bytes.len()].copy_from_slice(bytes);
-    LittleEndian::read_u32(&word)
+    let [a, b, c, d] = four_words(ids);
+    let words = [SUCCESS, ids.len() as u32, a, b, c, d];
+    let count = (ids.len() + 3) / 4;
+    set_payload(reply, &words[..2 + count]);
 }
 
 /// 0x7: the id and name of an agent, of the platform, or of the caller if it asks for itself (own);

@@ -8,16 +8,20 @@ use Rattle.std.proofs.lemmas.List.Elements.{All-nil, All-push}
 use Rattle.scmi_codec.specs.ChannelArea.{is_channel_size}
 use Rattle.scmi_plan.specs.Agent.{IsAgent}
 use Rattle.scmi_plan.specs.Board.{Board, IsChannel, IsOnBoard}
-use Rattle.scmi_plan.specs.declared.limits.TheConstants.{DEVICES, PENDING_SETS}
+use Rattle.scmi_plan.specs.declared.limits.TheConstants.{DEVICES, PENDING_SETS, PROTOCOLS}
+use Rattle.scmi_plan.specs.PlanError.{rises}
+use Rattle.scmi_plan.specs.Protocols.{AreProtocols, are_above_base}
 use Rattle.scmi_plan.specs.declared.resource.Resource.TheVariants as resource
 use Rattle.scmi_board.specs.BoardText.{behind_heading, heading_left, lines_by}
-use Rattle.scmi_board.specs.BoardLines.{Described, IsLineOf, described_left, first_channel, first_denied, first_free, first_options, first_pending, first_resource, first_scope, first_share, last_agent, with_absent_line, with_board_line, with_board_row, with_channel_line, with_deny_line, with_free_line, with_keep_line, with_line, with_lines}
+use Rattle.scmi_board.specs.BoardLines.{Described, IsLineOf, described_left, first_channel, first_denied, first_free, first_options, first_pending, first_protocols, first_resource, first_scope, first_share, last_agent, with_absent_line, with_board_line, with_board_row, with_channel_line, with_deny_line, with_free_line, with_id, with_keep_line, with_line, with_lines, with_protocols_line}
 use Rattle.scmi_board.specs.Items.{◌>>=◌, ItemsView, first_item, first_number, items_left, no_item}
 use Rattle.scmi_board.specs.Lines.{Line, LinesView, last_number}
-use Rattle.scmi_board.specs.Rows.{with_row}
+use Rattle.scmi_board.specs.ProtocolRow.{ids_in, row_of}
+use Rattle.scmi_board.specs.Rows.{after_each, parts_of, with_row}
 use Rattle.scmi_board.specs.declared.board_line.BoardLine.{BoardLine}
 use Rattle.scmi_board.specs.declared.board_line.BoardLine.TheVariants as said
 use Rattle.scmi_board.specs.declared.words.TheConstants.{ABSENT, CHANNEL, CLOCK, DENY, DOMAIN, FREE, KEEP, ONE_WAY, PENDING}
+use Rattle.scmi_board.specs.declared.words.TheConstants as words
 
 -- each line is one of the board
 abbrev IsGood : Described → Type 0
@@ -104,6 +108,16 @@ free-is board view =
     if-so (bytes_eq word.0 CLOCK.now && nat_lt number.0 (length board.clocks)) _ _
     (λ is. ltb-true number.0 (length board.clocks) (and_parts (bytes_eq word.0 CLOCK.now) (nat_lt number.0 (length board.clocks)) is).1)))
 
+protocols-are : (view : ItemsView) → IfSome (first_protocols view) (λ found. AreProtocols (ids_in found.0))
+unfolding first_protocols
+protocols-are view =
+    each (first_item view) _ _ (λ item. each (after_each with_id [] (parts_of item.0)) _ _ (λ all.
+    let ids = ids_in (row_of all) in
+    if-so (nat_le (length ids) PROTOCOLS && rises ids && are_above_base ids) _ _ (λ is.
+    let both = and_parts (nat_le (length ids) PROTOCOLS && rises ids) (are_above_base ids) is in
+    let first = and_parts (nat_le (length ids) PROTOCOLS) (rises ids) both.0 in
+    (leb-true (length ids) PROTOCOLS first.0, first.1, both.1))))
+
 denied-is : (board : Board) (view : ItemsView) → IfSome (first_denied board view) (λ found. IsLineOf board (said.Deny found.0))
 unfolding first_denied
 denied-is board view =
@@ -153,6 +167,12 @@ free-good so_far view good =
     bound (first_free so_far.0 view) _ _ _ (free-is so_far.0 view) (λ found is. each (no_item found.1) _ _ (λ end.
     All-push (IsLineOf so_far.0) so_far.1 (said.Free found.0) good is))
 
+protocols-good : (so_far : Described) (view : ItemsView) → IsGood so_far → IfSome (with_protocols_line so_far view) IsGood
+unfolding with_protocols_line
+protocols-good so_far view good =
+    bound (first_protocols view) _ _ _ (protocols-are view) (λ found are. each (no_item found.1) _ _ (λ end.
+    All-push (IsLineOf so_far.0) so_far.1 (said.Protocols found.0) good are))
+
 row-good : (so_far : Described) (text : List ℕ) → IfSome (with_board_row so_far text) IsGood
 unfolding with_board_row
 row-good so_far text = by so_far.1 where
@@ -168,7 +188,8 @@ step-good so_far text good =
     (either (bytes_eq word.0 KEEP.now) _ _ _ (keep-good so_far word.1 good)
     (either (bytes_eq word.0 DENY.now) _ _ _ (deny-good so_far word.1 good)
     (either (bytes_eq word.0 ABSENT.now) _ _ _ (absent-good so_far word.1 good)
-    (either (bytes_eq word.0 FREE.now) _ _ _ (free-good so_far word.1 good) (row-good so_far text))))))
+    (either (bytes_eq word.0 FREE.now) _ _ _ (free-good so_far word.1 good)
+    (either (bytes_eq word.0 words.PROTOCOLS.now) _ _ _ (protocols-good so_far word.1 good) (row-good so_far text)))))))
 
 lines-good : (last : ℕ) (so_far : Described) (lines : List Line) → IsGood so_far → IfOk (lines_by with_line last so_far lines) (λ found. IsGood found.0)
 unfolding lines_by
@@ -202,6 +223,7 @@ same-rows board (said.Keep kept) = record { agents = refl; domains = refl; clock
 same-rows board (said.Deny line) = record { agents = refl; domains = refl; clocks = refl; devices = refl }
 same-rows board (said.Absent absent) = record { agents = refl; domains = refl; clocks = refl; devices = refl }
 same-rows board (said.Free c) = record { agents = refl; domains = refl; clocks = refl; devices = refl }
+same-rows board (said.Protocols ids) = record { agents = refl; domains = refl; clocks = refl; devices = refl }
 
 of-same-rows : (a b : Board) (line : BoardLine) → HasRowsOf a b → IsLineOf a line → IsLineOf b line
 of-same-rows a b (said.Channel line) same is = (rw (sym same.agents) is.0, is.1)
@@ -211,6 +233,7 @@ of-same-rows a b (said.Deny line) same is = (rw (sym same.agents) is.0, rw (sym 
 of-same-rows a b (said.Absent (resource.Domain d)) same is = rw (sym same.domains) is
 of-same-rows a b (said.Absent (resource.Clock c)) same is = rw (sym same.clocks) is
 of-same-rows a b (said.Free c) same is = rw (sym same.clocks) is
+of-same-rows a b (said.Protocols ids) same is = is
 
 -- a line of a board is one too of the board with what other lines say of it
 pub still-line : (board : Board) (lines : List BoardLine) (line : BoardLine) → IsLineOf board line → IsLineOf (with_lines board lines) line

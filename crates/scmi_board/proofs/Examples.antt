@@ -1,12 +1,12 @@
 -- Texts and what they encode, computed.
 use Rattle.std.proofs.Common.{◌≡◌, ℕ, true, false, List, [], ◌∷◌, Some, None, refl, replicate}
 use Rattle.std.specs.Prelude.{codes}
-use Rattle.scmi_plan.specs.Board.{Board, nothing_denied, nothing_held, whole_channel}
+use Rattle.scmi_plan.specs.Board.{Board, nothing_denied, nothing_held, own_protocols, whole_channel}
 use Rattle.scmi_plan.specs.Rates as rates
 use Rattle.scmi_plan.specs.declared.clock.Clock.{Clock}
 use Rattle.scmi_plan.specs.declared.resource.Resource.TheVariants as resource
 use Rattle.scmi_plan.specs.declared.scope.Scope.TheVariants as scope
-use Rattle.scmi_board.specs.BoardLines.{first_channel, first_denied, first_free, first_options, first_pending, first_resource, first_scope, first_share, with_absent_line, with_board_row, with_channel_line, with_deny_line, with_free_line, with_keep_line, with_line}
+use Rattle.scmi_board.specs.BoardLines.{first_protocols, with_id, with_protocols_line, first_channel, first_denied, first_free, first_options, first_pending, first_resource, first_scope, first_share, with_absent_line, with_board_row, with_channel_line, with_deny_line, with_free_line, with_keep_line, with_line}
 use Rattle.scmi_board.specs.Items.{behind_spaces, first_number, item_at, items_left, items_of, items_up_to}
 use Rattle.scmi_board.specs.Lines.{lines_of}
 use Rattle.scmi_board.specs.Number.{number_of}
@@ -96,6 +96,7 @@ small =
       denied = nothing_denied;
       absent = nothing_held;
       free = 0;
+      protocols = own_protocols;
     }
   where
     clock : List ℕ → Clock
@@ -156,6 +157,23 @@ free_clock_of_no_row = refl
 free_domain : with_line (small, []) (codes "free domain 0") ≡ None
 unfolding behind_spaces item_at items_up_to first_free first_number number_of with_free_line with_line
 free_domain = refl
+
+some_protocols : with_line (small, []) (codes "protocols 0x11,0x15,200")
+    ≡ Some (small, said.Protocols (0x11 ∷ 0x15 ∷ 200 ∷ replicate 13 0) ∷ [])
+unfolding behind_spaces item_at items_up_to first_protocols number_of with_id with_protocols_line with_line
+some_protocols = refl
+
+protocols_that_fall : with_line (small, []) (codes "protocols 0x14,0x11") ≡ None
+unfolding behind_spaces item_at items_up_to first_protocols number_of with_id with_protocols_line with_line
+protocols_that_fall = refl
+
+no_protocol : with_line (small, []) (codes "protocols 0x11,0") ≡ None
+unfolding behind_spaces item_at items_up_to first_protocols number_of with_id with_protocols_line with_line
+no_protocol = refl
+
+the_base_protocol : with_line (small, []) (codes "protocols 0x10,0x11") ≡ None
+unfolding behind_spaces item_at items_up_to first_protocols number_of with_id with_protocols_line with_line
+the_base_protocol = refl
 
 absent_clock_behind_a_free_one
     : with_line (small, said.Free 1 ∷ []) (codes "absent clock 0") ≡ Some (small, said.Free 1 ∷ said.Absent (resource.Clock 0) ∷ [])

@@ -1,4 +1,5 @@
--- A board with lines behind its rows: what channels its agents have, what is kept, what is denied, what is absent, which clocks are free (own).
+-- A board with lines behind its rows: what channels its agents have, what is kept, what is denied, what is absent, which
+-- clocks are free, what its protocols are (own).
 use Rattle.std.specs.Prelude.{ℕ, ◌<◌, ◌-◌, ◌/◌, ◌^◌, ◌==◌, ◌&&◌, ◌++◌, nat_le, nat_lt, Bool, true, false, if◌then◌else◌, List, [], ◌∷◌, length, Option, Some, None, Result}
 use Rattle.std.specs.List.{fold}
 use Rattle.std.specs.Str.{bytes_eq}
@@ -6,9 +7,11 @@ use Rattle.scmi_codec.specs.ChannelArea.{is_channel_size}
 use Rattle.scmi_codec.specs.declared.clock_command.TheConstants.{CLOCK_PROTOCOL}
 use Rattle.scmi_codec.specs.declared.power_command.TheConstants.{POWER_PROTOCOL}
 use Rattle.scmi_plan.specs.Agent.{IsAgent}
-use Rattle.scmi_plan.specs.Board.{Board, IsChannel, IsOnBoard, with_absent, with_channel, with_denied, with_free, with_kept}
+use Rattle.scmi_plan.specs.Board.{Board, IsChannel, IsOnBoard, with_absent, with_channel, with_denied, with_free, with_kept, with_protocols}
+use Rattle.scmi_plan.specs.PlanError.{rises}
+use Rattle.scmi_plan.specs.Protocols.{AreProtocols, are_above_base}
 use Rattle.scmi_plan.specs.RawPlan.{asked_board}
-use Rattle.scmi_plan.specs.declared.limits.TheConstants.{DEVICES, PENDING_SETS}
+use Rattle.scmi_plan.specs.declared.limits.TheConstants.{DEVICES, PENDING_SETS, PROTOCOLS}
 use Rattle.scmi_plan.specs.declared.resource.Resource.{Resource}
 use Rattle.scmi_plan.specs.declared.resource.Resource.TheVariants as resource
 use Rattle.scmi_plan.specs.declared.scope.Scope.{Scope}
@@ -16,13 +19,16 @@ use Rattle.scmi_plan.specs.declared.scope.Scope.TheVariants as scope
 use Rattle.scmi_board.specs.BoardText.{behind_heading, heading_left}
 use Rattle.scmi_board.specs.Items.{◌>>=◌, ItemsView, first_item, first_number, items_left, no_item}
 use Rattle.scmi_board.specs.Lines.{Line, LinesView, last_number}
-use Rattle.scmi_board.specs.Rows.{with_row}
+use Rattle.scmi_board.specs.Number.{number_of}
+use Rattle.scmi_board.specs.ProtocolRow.{ids_in, row_of}
+use Rattle.scmi_board.specs.Rows.{after_each, parts_of, with_row}
 use Rattle.scmi_board.specs.declared.board_line.BoardLine.{BoardLine}
 use Rattle.scmi_board.specs.declared.board_line.BoardLine.TheVariants as said
 use Rattle.scmi_board.specs.declared.board_with_lines.BoardWithLines.{BoardWithLines}
 use Rattle.scmi_board.specs.declared.channel_line.ChannelLine.{ChannelLine}
 use Rattle.scmi_board.specs.declared.deny_line.DenyLine.{DenyLine}
 use Rattle.scmi_board.specs.declared.words.TheConstants.{ABSENT, CHANNEL, CLOCK, DENY, DOMAIN, FREE, KEEP, ONE_WAY, PENDING}
+use Rattle.scmi_board.specs.declared.words.TheConstants as words
 
 -- a board, and the lines behind its rows
 abbrev pub Described : Type 0
@@ -40,6 +46,7 @@ IsLineOf board (said.Keep kept) = IsOnBoard board kept
 IsLineOf board (said.Deny line) = IsAgent (length board.agents) line.agent × (line.devices < 2 ^ length board.devices)
 IsLineOf board (said.Absent absent) = IsOnBoard board absent
 IsLineOf board (said.Free c) = c < length board.clocks
+IsLineOf board (said.Protocols row) = AreProtocols (ids_in row)
 
 -- a board with what a line says of it
 abbrev pub with_board_line : Board → BoardLine → Board
@@ -48,6 +55,7 @@ with_board_line board (said.Keep kept) = with_kept board kept
 with_board_line board (said.Deny line) = with_denied board line.agent line.devices line.scope
 with_board_line board (said.Absent absent) = with_absent board absent
 with_board_line board (said.Free c) = with_free board c
+with_board_line board (said.Protocols row) = with_protocols board (ids_in row)
 
 -- a board with what these lines say of it
 abbrev pub with_lines : Board → List BoardLine → Board
@@ -102,6 +110,22 @@ first_free board view = do
   number ← first_number 32 word.1
   if bytes_eq word.0 CLOCK.now && nat_lt number.0 (length board.clocks) then Some (number.0, number.1) else None
 
+-- an id behind others, of which a board has at most so many
+unfoldable pub with_id : List ℕ → List ℕ → Option (List ℕ)
+with_id ids part = do
+  id ← number_of 8 part
+  if nat_lt 0 id && nat_lt (length ids) PROTOCOLS then Some (ids ++ id ∷ []) else None
+
+-- ID,ID,.. of protocols that a board may have besides the base protocol, as a row
+unfoldable pub first_protocols : ItemsView → Option (List ℕ × ItemsView)
+first_protocols view = do
+  item ← first_item view
+  ids ← after_each with_id [] (parts_of item.0)
+  let row = row_of ids in
+      if nat_le (length (ids_in row)) PROTOCOLS && rises (ids_in row) && are_above_base (ids_in row)
+      then Some (row, item.1)
+      else None
+
 -- nothing, or the number of a protocol: what is denied of a device
 unfoldable pub first_scope : ItemsView → Option (Scope × ItemsView)
 first_scope view = elim (no_item view) [
@@ -129,6 +153,7 @@ channel_behind agent (said.Keep kept) = agent
 channel_behind agent (said.Deny line) = agent
 channel_behind agent (said.Absent absent) = agent
 channel_behind agent (said.Free c) = agent
+channel_behind agent (said.Protocols row) = agent
 
 -- the agent of the last line `channel` of these lines, 0 if there is none
 abbrev pub last_agent : List BoardLine → ℕ
@@ -171,6 +196,13 @@ with_free_line so_far view = do
   end ← no_item found.1
   Some (so_far.0, so_far.1 ++ said.Free found.0 ∷ [])
 
+-- the protocols of the board besides the base protocol
+unfoldable pub with_protocols_line : Described → ItemsView → Option Described
+with_protocols_line so_far view = do
+  found ← first_protocols view
+  end ← no_item found.1
+  Some (so_far.0, so_far.1 ++ said.Protocols found.0 ∷ [])
+
 -- a row of the board, where no other line stands before it
 unfoldable pub with_board_row : Described → List ℕ → Option Described
 with_board_row so_far text = elim so_far.1 [
@@ -187,6 +219,7 @@ with_line so_far text = do
       else if bytes_eq word.0 DENY.now then with_deny_line so_far word.1
       else if bytes_eq word.0 ABSENT.now then with_absent_line so_far word.1
       else if bytes_eq word.0 FREE.now then with_free_line so_far word.1
+      else if bytes_eq word.0 words.PROTOCOLS.now then with_protocols_line so_far word.1
       else with_board_row so_far text
 
 -- the board and lines that are left up to `end`, and the lines behind it

@@ -1,3 +1,4 @@
+pub mod ProtocolRow
 pub mod BoardLines
 pub mod BoardText
 pub mod Items

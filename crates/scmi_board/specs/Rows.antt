@@ -2,7 +2,7 @@
 use Rattle.std.specs.Prelude.{◌==◌, ℕ, ◌^◌, ◌&&◌, ◌++◌, Bool, true, false, if◌then◌else◌, nat_lt, replicate, List, [], ◌∷◌, Option, Some, None, bit_and, bit_or}
 use Rattle.std.specs.List.{slice_split}
 use Rattle.std.specs.Str.{bytes_eq, is_utf8}
-use Rattle.scmi_plan.specs.Board.{Board, nothing_denied, nothing_held, whole_channel}
+use Rattle.scmi_plan.specs.Board.{Board, nothing_denied, nothing_held, own_protocols, whole_channel}
 use Rattle.scmi_plan.specs.declared.limits.TheConstants.{AGENTS}
 use Rattle.scmi_plan.specs.declared.clock.Clock.{Clock}
 use Rattle.scmi_plan.specs.declared.device.Device.{Device}
@@ -168,7 +168,7 @@ bare_board view = do
   version ← first_number 32 sub_vendor.1
   trusted ← first_number 32 version.1
   end ← no_item trusted.1
-  Some (record { vendor = vendor.0; sub_vendor = sub_vendor.0; version = version.0; trusted = trusted.0; agents = []; domains = []; clocks = []; devices = []; channels = replicate AGENTS whole_channel; kept = nothing_held; denied = nothing_denied; absent = nothing_held; free = 0 })
+  Some (record { vendor = vendor.0; sub_vendor = sub_vendor.0; version = version.0; trusted = trusted.0; agents = []; domains = []; clocks = []; devices = []; channels = replicate AGENTS whole_channel; kept = nothing_held; denied = nothing_denied; absent = nothing_held; free = 0; protocols = own_protocols })
 
 -- board VENDOR SUBVENDOR VERSION TRUSTED; none where the line is no heading
 unfoldable pub heading_of : List ℕ → Option Board

@@ -2,7 +2,7 @@
 
 use crate::channel_line::ChannelLine;
 use crate::deny_line::DenyLine;
-use scmi_plan::Resource;
+use scmi_plan::{PROTOCOLS, Resource};
 
 /// A line that a board may have behind its rows (own).
 #[derive(Clone, Copy, Debug, PartialEq, Eq, Drop)]
@@ -17,4 +17,6 @@ pub enum BoardLine {
     Absent(Resource),
     /// The clock of this number takes each rate as it is asked for.
     Free(u32),
+    /// The board has these protocols besides the base protocol, and no others: a row of their ids.
+    Protocols([u8; PROTOCOLS]),
 }

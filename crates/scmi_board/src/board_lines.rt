@@ -4,6 +4,7 @@ ghost use Rattle.std.specs.List.{All};
 ghost use Rattle.scmi_board.specs.BoardLines.{IsLineOf, with_board_line, with_lines};
 
 use crate::board_line::BoardLine;
+use crate::protocol_row::ids_of;
 use scmi_plan::Plan;
 
 /// Gives a plan what this line says of it.
@@ -26,6 +27,9 @@ pub fn apply_line(plan: &mut Plan, line: &BoardLine)
         }
         BoardLine::Free(clock) => {
             let _ = plan.set_free(clock);
+        }
+        BoardLine::Protocols(row) => {
+            let _ = plan.set_protocols(ids_of(&row));
         }
     }
 }

@@ -1,7 +1,7 @@
 //! Boards whose texts have lines behind the rows.
 ghost use Rattle.std.specs.Prelude.{◌≡◌, IfErr};
 ghost use Rattle.scmi_board.specs.BoardText.{GivesBoard, lines_by};
-ghost use Rattle.scmi_board.specs.BoardLines.{described, described_left, last_agent, with_absent_line, with_board_row, with_channel_line, with_deny_line, with_free_line, with_keep_line, with_line};
+ghost use Rattle.scmi_board.specs.BoardLines.{described, described_left, last_agent, with_absent_line, with_board_row, with_channel_line, with_deny_line, with_free_line, with_keep_line, with_line, with_protocols_line};
 ghost use Rattle.scmi_board.specs.Items.{items_left};
 ghost use Rattle.scmi_board.specs.LineError.{Gives, GivesUnless};
 ghost use Rattle.scmi_board.specs.Lines.{last_number, lines_left};
@@ -16,9 +16,10 @@ use crate::items::Items;
 use crate::keep_line::read_resource;
 use crate::line_error::LineError;
 use crate::lines::Lines;
+use crate::protocols_line::read_protocols;
 use crate::row::read_row;
 use crate::text_error::TextError;
-use crate::words::{ABSENT, CHANNEL, DENY, END, FREE, KEEP};
+use crate::words::{ABSENT, CHANNEL, DENY, END, FREE, KEEP, PROTOCOLS};
 use scmi_plan::RawPlan;
 use std::alloc::{AllocError, Global};
 
@@ -48,6 +49,10 @@ pub struct BoardWithLines {
 /// agent it is as one that the board lacks.
 ///
 /// `free clock N` says that a clock takes each rate as it is asked for, in Hz, and rounds none.
+///
+/// `protocols ID,ID,..` are the protocols besides the base protocol, at most 16, which rise from 0x11
+/// on. Without it they are 0x11 and 0x14. A board may lack one of these, and have protocols of its
+/// firmware. Of several such lines the last counts.
 ///
 /// `Board` gives the number of the first line of another form, or, if `end` is missing, of the last
 /// line of the input. `Memory` if memory is refused. After an error it is not specified how many
@@ -110,6 +115,9 @@ fn add_line(alloc: Global, board: &mut BoardWithLines, text: &[u8]) -> Result<()
     }
     if word == FREE {
         return add_free(board, &mut items);
+    }
+    if word == PROTOCOLS {
+        return add_protocols(board, &mut items);
     }
     add_row(alloc, board, text)
 }
@@ -202,6 +210,21 @@ fn add_free(board: &mut BoardWithLines, items: &mut Items<'_>) -> Result<(), Lin
     board
         .lines
         .push(BoardLine::Free(clock))
+        .map_err(AllocError::from)?;
+    Ok(())
+}
+
+/// What follows `protocols`.
+#[tactic(auto, unfolding(crate::specs::BoardLines::with_protocols_line))]
+fn add_protocols(board: &mut BoardWithLines, items: &mut Items<'_>) -> Result<(), LineError>
+    ensures { GivesUnless (λ _. described board.new) result
+        (with_protocols_line (described board.old) (items_left items.old)) }
+{
+    let ids = read_protocols(items)?;
+    items.finish()?;
+    board
+        .lines
+        .push(BoardLine::Protocols(ids))
         .map_err(AllocError::from)?;
     Ok(())
 }

@@ -34,6 +34,9 @@ pub(crate) const ABSENT: &[u8] = b"absent";
 /// The first word of a clock that takes each rate as it is asked for.
 pub(crate) const FREE: &[u8] = b"free";
 
+/// The first word of the protocols besides the base protocol.
+pub(crate) const PROTOCOLS: &[u8] = b"protocols";
+
 /// The line after the last row.
 pub const END: &[u8] = b"end";
 

@@ -8,7 +8,6 @@ use Rattle.scmi_codec.specs.Area.{area_after_answer, frame_waiting, header_at, l
 use Rattle.scmi_codec.specs.declared.channel_area.ChannelAreaError.{ChannelAreaError}
 use Rattle.scmi_codec.specs.declared.channel_area.ChannelAreaError.TheVariants.{TooLong, WrongSize}
 use Rattle.scmi_codec.specs.ChannelArea.{capacity, channel_bytes, channel_waiting, channel_words, is_channel_size, room_for}
-use Rattle.scmi_codec.specs.Command.{command_of}
 use Rattle.scmi_codec.specs.Header.{header_of}
 use Rattle.scmi_codec.specs.Word.{words_at}
 use Rattle.scmi_codec.specs.declared.message.Message.{Message}
@@ -21,6 +20,7 @@ use Rattle.scmi_core.specs.Channels.{IsAnswerWithin, IsWithin}
 use Rattle.scmi_core.specs.History.{answer_to, answer_with, deeds, made_for, outbox}
 use Rattle.scmi_core.specs.Legal.{IsLegal}
 use Rattle.scmi_core.specs.Outbox.{message_with, failed_words, messages_made, sent_count, situation_after}
+use Rattle.scmi_core.specs.ReadCommand.{command_on}
 use Rattle.scmi_core.specs.Reply.{answer_in, failed_answer, fits_channel, reply_words}
 use Rattle.scmi_core.specs.Situation.{Situation}
 use Rattle.scmi_core.specs.declared.answered.Answered.{Answered}
@@ -101,8 +101,8 @@ waiting-header words area m = by (status_at area % 2 == 1) (is_well_formed_withi
 
 pub answer-within : (board : Board) (a : ℕ) (frame : Frame) (h : List Event) → IsValid board → IsAnswerWithin board a (answer_to board a frame h)
 answer-within board a (Good m) h law = by (fits_channel board a m) where
-  by : (short : Bool) → IsAnswerWithin board a (if short then Reply (message_with m.header (reply_words board a (situation_after board a (deeds board h)) (command_of m))) else ChannelError)
-  by true = reply-within board a (situation_after board a (deeds board h)) (command_of m) law
+  by : (short : Bool) → IsAnswerWithin board a (if short then Reply (message_with m.header (reply_words board a (situation_after board a (deeds board h)) (command_on board m))) else ChannelError)
+  by true = reply-within board a (situation_after board a (deeds board h)) (command_on board m) law
   by false = tt
 answer-within board a (Malformed len header) h law = tt
 

@@ -1,6 +1,5 @@
 -- A change of a clock's rate: its clock is the board's.
 use Rattle.std.proofs.Common.{◌≡◌, ◌<◌, ℕ, Bool, true, false, if◌then◌else◌, List, [], length, Some, None, option_map, ap, ◌∙◌}
-use Rattle.scmi_codec.specs.Command.{command_of}
 use Rattle.scmi_codec.specs.declared.frame.Frame.{Frame}
 use Rattle.scmi_codec.specs.declared.frame.Frame.TheVariants.{Good, Malformed}
 use Rattle.scmi_plan.specs.Board.{Board}
@@ -10,6 +9,7 @@ use Rattle.scmi_core.specs.Deed.{success_of}
 use Rattle.scmi_core.specs.Effect.{effect_after, effect_of}
 use Rattle.scmi_core.specs.History.{deeds}
 use Rattle.scmi_core.specs.Outbox.{situation_after}
+use Rattle.scmi_core.specs.ReadCommand.{command_on}
 use Rattle.scmi_core.specs.Reply.{fits_channel, reply_words}
 use Rattle.scmi_core.specs.Value.{change_of}
 use Rattle.scmi_core.specs.declared.event.Event.{Event}
@@ -23,9 +23,9 @@ pub clock-known : (board : Board) (a : ℕ) (h : List Event) (frame : Frame) (cl
     → effect_after board h (Called a frame) ≡ Some (Rate clock rate) → clock < length board.clocks
 clock-known board a h (Good m) clock rate is = by (fits_channel board a m) is where
   by : (b : Bool)
-      → option_map effect_of (change_of board (success_of a m.header (command_of m) (if b then reply_words board a (situation_after board a (deeds board h)) (command_of m) else [])) None) ≡ Some (Rate clock rate)
+      → option_map effect_of (change_of board (success_of a m.header (command_on board m) (if b then reply_words board a (situation_after board a (deeds board h)) (command_on board m) else [])) None) ≡ Some (Rate clock rate)
       → clock < length board.clocks
-  by true is = (rate-set board a m.header (situation_after board a (deeds board h)) (command_of m) clock rate is).known
+  by true is = (rate-set board a m.header (situation_after board a (deeds board h)) (command_on board m) clock rate is).known
   by false is = absurd (let no : None ≡ Some (Rate clock rate) = is in cc)
 clock-known board a h (Malformed len header) clock rate is = absurd (let no : None ≡ Some (Rate clock rate) = is in cc)
 

@@ -15,7 +15,14 @@ abbrev name : List ℕ → List ℕ
 name text = text ++ replicate (16 - length text) 0
 
 abbrev heading : HeadingRow
-heading = record { vendor = name (codes "Acme"); sub_vendor = name (codes "Phone"); version = 0x10000; trusted = 1 }
+heading =
+    record {
+      vendor = name (codes "Acme");
+      sub_vendor = name (codes "Phone");
+      version = 0x10000;
+      trusted = 1;
+      protocols = name (0x11 ∷ 0x14 ∷ 0x80 ∷ []);
+    }
 
 abbrev ap : AgentRow
 ap = record { name = name (codes "ap"); bytes = 0; one_way = 0; pending = 0; denied = 0; denied_power = 0; denied_clocks = 0 }
@@ -61,8 +68,22 @@ of-phone : board_of_tables (phone (100 ∷ 200 ∷ 400 ∷ [])) ≡ Ok (record {
   denied = record { devices = 0 ∷ 2 ∷ replicate 6 0; power = 0 ∷ 1 ∷ replicate 6 0; clocks = 0 ∷ 3 ∷ replicate 6 0 };
   absent = record { domains = 0; clocks = 1 };
   free = 2;
+  protocols = 0x11 ∷ 0x14 ∷ 0x80 ∷ [];
 })
 of-phone = refl
+
+-- a board without clocks, one of which nothing is said, and one whose ids do not rise
+of-ids : List ℕ → BoardTables
+of-ids ids = tables_given (record heading { protocols = name ids }) (ap ∷ []) (cpu ∷ []) [] [] []
+
+no-clocks : map_ok (λ board. board.protocols) (board_of_tables (of-ids (0x11 ∷ []))) ≡ Ok (0x11 ∷ [])
+no-clocks = refl
+
+no-ids : map_ok (λ board. board.protocols) (board_of_tables (of-ids [])) ≡ Ok own_protocols
+no-ids = refl
+
+no-order : board_of_tables (of-ids (0x14 ∷ 0x11 ∷ [])) ≡ Err TABLE
+no-order = refl
 
 -- a table that ends before the list does
 short-table : board_of_tables (phone (100 ∷ 200 ∷ [])) ≡ Err TABLE

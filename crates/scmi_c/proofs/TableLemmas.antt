@@ -19,7 +19,7 @@ use Rattle.scmi_plan.proofs.FaultLemmas.{All-of_map, name_fault}
 use Rattle.scmi_board.specs.declared.board_line.BoardLine.{BoardLine}
 use Rattle.scmi_board.specs.declared.board_line.BoardLine.TheVariants as said
 use Rattle.scmi_board.specs.BoardLines.{with_board_line, with_lines}
-use Rattle.scmi_c.specs.Tables.{HasRowsOf, BoardTables, board_in, clock_in, domain_in, is_agent_row, is_clock_row, is_domain_row, is_named, is_said_row, is_well_formed, is_zero, lines_from, name_in}
+use Rattle.scmi_c.specs.Tables.{HasRowsOf, BoardTables, board_in, clock_in, domain_in, is_agent_row, is_clock_row, is_domain_row, is_heading, is_named, is_said_row, is_well_formed, is_zero, lines_from, name_in}
 
 -- each byte of a list of ASCII, and what follows it
 below : (bytes : List ℕ) (i : ℕ) → All (λ byte. nat_lt byte 128 ≡ true) bytes → slice_index bytes i < 128
@@ -36,24 +36,28 @@ name_utf8 name n is =
     IsUtf8-from_ascii (take n name) (λ i. below (take n name) i (All-take (λ byte. nat_lt byte 128 ≡ true) n name (AllPass-from_list_all (λ byte. nat_lt byte 128) name low)))
 
 -- what holds for the rows of well-formed tables
-parts : (a b c d e : Bool) → a && b && c && d && e ≡ true → (c ≡ true) × (d ≡ true) × (e ≡ true)
-parts a b c d e is =
-    let p = and_parts (a && b && c && d) e is in
-    let q = and_parts (a && b && c) d p.0 in
-    ((and_parts (a && b) c q.0).1, q.1, p.1)
+parts : (a b c d : Bool) → a && b && c && d ≡ true → (a ≡ true) × (b ≡ true) × (c ≡ true) × (d ≡ true)
+parts a b c d is =
+    let p = and_parts (a && b && c) d is in
+    let q = and_parts (a && b) c p.0 in
+    let r = and_parts a b q.0 in
+    (r.0, r.1, q.1, p.1)
 
-all_parts : (t : BoardTables) → is_well_formed t ≡ true → (list_all (is_agent_row (length t.devices)) t.agents ≡ true) × (list_all is_domain_row t.domains ≡ true) × (list_all (is_clock_row (length t.rates)) t.clocks ≡ true)
+all_parts : (t : BoardTables) → is_well_formed t ≡ true → (is_heading t.heading ≡ true) × (list_all (is_agent_row (length t.devices)) t.agents ≡ true) × (list_all is_domain_row t.domains ≡ true) × (list_all (is_clock_row (length t.rates)) t.clocks ≡ true)
 all_parts t is =
-    parts (is_named t.heading.vendor) (is_named t.heading.sub_vendor) (list_all (is_agent_row (length t.devices)) t.agents) (list_all is_domain_row t.domains) (list_all (is_clock_row (length t.rates)) t.clocks) is
+    parts (is_heading t.heading) (list_all (is_agent_row (length t.devices)) t.agents) (list_all is_domain_row t.domains) (list_all (is_clock_row (length t.rates)) t.clocks) is
+
+pub heading_formed : (t : BoardTables) → is_well_formed t ≡ true → is_heading t.heading ≡ true
+heading_formed t is = (all_parts t is).0
 
 agents_formed : (t : BoardTables) → is_well_formed t ≡ true → All (λ row. is_agent_row (length t.devices) row ≡ true) t.agents
-agents_formed t is = AllPass-from_list_all (is_agent_row (length t.devices)) t.agents (all_parts t is).0
+agents_formed t is = AllPass-from_list_all (is_agent_row (length t.devices)) t.agents (all_parts t is).1
 
 pub domains_formed : (t : BoardTables) → is_well_formed t ≡ true → All (λ row. is_domain_row row ≡ true) t.domains
-domains_formed t is = AllPass-from_list_all is_domain_row t.domains (all_parts t is).1
+domains_formed t is = AllPass-from_list_all is_domain_row t.domains (all_parts t is).2
 
 pub clocks_formed : (t : BoardTables) → is_well_formed t ≡ true → All (λ row. is_clock_row (length t.rates) row ≡ true) t.clocks
-clocks_formed t is = AllPass-from_list_all (is_clock_row (length t.rates)) t.clocks (all_parts t is).2
+clocks_formed t is = AllPass-from_list_all (is_clock_row (length t.rates)) t.clocks (all_parts t is).3
 
 pub agents_named : (t : BoardTables) → is_well_formed t ≡ true → All (λ row. is_named row.name ≡ true) t.agents
 agents_named t is = λ k d small.
@@ -140,6 +144,7 @@ rows_of_line board (said.Keep kept) = record { agents = refl; domains = refl; cl
 rows_of_line board (said.Deny line) = record { agents = refl; domains = refl; clocks = refl; devices = refl }
 rows_of_line board (said.Absent absent) = record { agents = refl; domains = refl; clocks = refl; devices = refl }
 rows_of_line board (said.Free free) = record { agents = refl; domains = refl; clocks = refl; devices = refl }
+rows_of_line board (said.Protocols ids) = record { agents = refl; domains = refl; clocks = refl; devices = refl }
 
 -- lines add no row
 pub rows_of_lines : (board : Board) (lines : List BoardLine) → HasRowsOf board (with_lines board lines)

@@ -3,7 +3,6 @@ use Rattle.std.proofs.Common.{◌≡◌, ◌≢◌, ◌<◌, ◌≤◌, ℕ, ◌
 use Rattle.std.proofs.lemmas.Bool.{and_parts, le-leb, leb-true}
 use Rattle.scmi_codec.specs.Area.{message_of}
 use Rattle.scmi_codec.specs.ChannelArea.{channel_words, is_channel_size}
-use Rattle.scmi_codec.specs.Command.{command_of}
 use Rattle.scmi_codec.specs.Header.{header_word}
 use Rattle.scmi_codec.specs.declared.frame.Frame.{Frame}
 use Rattle.scmi_codec.specs.declared.frame.Frame.TheVariants.{Good, Malformed}
@@ -18,6 +17,7 @@ use Rattle.scmi_core.specs.Deed.{success_of}
 use Rattle.scmi_core.specs.Effect.{effect_after, effect_of}
 use Rattle.scmi_core.specs.History.{answer_to, answer_with, deeds}
 use Rattle.scmi_core.specs.Outbox.{situation_after}
+use Rattle.scmi_core.specs.ReadCommand.{command_on}
 use Rattle.scmi_core.specs.Reply.{failed_answer, fits_channel, reply_in, reply_words}
 use Rattle.scmi_core.specs.Value.{change_of}
 use Rattle.scmi_core.specs.declared.answered.Answered.{Answered}
@@ -64,7 +64,7 @@ fitting-replied board a h m few = by (fits_channel board a m) (le-leb (length m.
 pub asked-replied : (board : Board) (a : ℕ) (h : List Event) (frame : Frame) → effect_after board h (Called a frame) ≢ None → answer_to board a frame h ≢ ChannelError
 asked-replied board a h (Good m) some = by (fits_channel board a m) some where
   by : (b : Bool)
-      → option_map effect_of (change_of board (success_of a m.header (command_of m) (if b then reply_words board a (situation_after board a (deeds board h)) (command_of m) else [])) None) ≢ None
+      → option_map effect_of (change_of board (success_of a m.header (command_on board m) (if b then reply_words board a (situation_after board a (deeds board h)) (command_on board m) else [])) None) ≢ None
       → (if b then Reply (reply_in board a m (situation_after board a (deeds board h))) else ChannelError) ≢ ChannelError
   by true some = λ e. absurd (cc)
   by false some = absurd (some refl)

@@ -3,8 +3,9 @@ use Rattle.std.specs.Prelude.{◌≡◌, ◌<◌, ◌≤◌, ◌⊎◌, ℕ, ◌
 use Rattle.std.specs.List.{before_first, list_all, list_any, position_or_len}
 use Rattle.scmi_codec.specs.ChannelArea.{channel_words, is_channel_size}
 use Rattle.scmi_codec.specs.declared.payload.TheConstants.{PAYLOAD_WORDS}
-use Rattle.scmi_plan.specs.Board.{Board, nothing_denied, nothing_held, whole_channel}
-use Rattle.scmi_plan.specs.PlanError.{first_fault}
+use Rattle.scmi_plan.specs.Board.{Board, nothing_denied, nothing_held, own_protocols, whole_channel}
+use Rattle.scmi_plan.specs.PlanError.{first_fault, rises}
+use Rattle.scmi_plan.specs.Protocols.{are_above_base}
 use Rattle.scmi_plan.specs.declared.agent_channel.AgentChannel.{AgentChannel}
 use Rattle.scmi_plan.specs.declared.clock.Clock.{Clock}
 use Rattle.scmi_plan.specs.declared.device.Device.{Device}
@@ -17,6 +18,7 @@ use Rattle.scmi_plan.specs.Rates.{SupportedRates}
 use Rattle.scmi_plan.specs.Rates as rates
 use Rattle.scmi_board.specs.declared.board_line.BoardLine.{BoardLine}
 use Rattle.scmi_board.specs.declared.board_line.BoardLine.TheVariants as said
+use Rattle.scmi_board.specs.ProtocolRow.{ids_in}
 use Rattle.scmi_board.specs.BoardLines.{with_lines}
 use Rattle.scmi_c.specs.Board.{unless_fault}
 use Rattle.scmi_c.specs.declared.code.TheConstants.{MEMORY, RULE, TABLE}
@@ -56,6 +58,16 @@ is_named name = list_any is_zero name && list_all (λ byte. nat_lt byte 128) nam
 -- the name: what comes before its zero
 abbrev pub name_in : List ℕ → List ℕ
 name_in name = before_first is_zero name
+
+-- whether these are ids that rise above that of the base protocol, and zeros behind them
+abbrev pub is_protocols : List ℕ → Bool
+is_protocols ids =
+    rises (ids_in ids) && are_above_base (ids_in ids)
+    && list_all is_zero (drop (position_or_len is_zero ids) ids)
+
+-- whether the heading is well formed
+abbrev pub is_heading : HeadingRow → Bool
+is_heading row = is_named row.vendor && is_named row.sub_vendor && is_protocols row.protocols
 
 -- whether an agent's areas are whole, or have a size that a channel may have
 abbrev pub is_channel_row : AgentRow → Bool
@@ -97,8 +109,8 @@ is_clock_row rates row = is_named row.name && ends_within rates row
 -- whether tables are well formed in themselves
 abbrev pub is_well_formed : BoardTables → Bool
 is_well_formed t =
-    is_named t.heading.vendor && is_named t.heading.sub_vendor && list_all (is_agent_row (length t.devices)) t.agents && list_all is_domain_row t.domains
-    && list_all (is_clock_row (length t.rates)) t.clocks
+    is_heading t.heading && list_all (is_agent_row (length t.devices)) t.agents
+    && list_all is_domain_row t.domains && list_all (is_clock_row (length t.rates)) t.clocks
 
 -- any number but 0
 abbrev pub is_set : ℕ → Bool
@@ -121,7 +133,8 @@ clock_in table row = record { name = name_in row.name; enabled = is_set row.enab
 abbrev pub device_in : DeviceRow → Device
 device_in row = record { domains = row.domains; clocks = row.clocks }
 
--- the board of well-formed tables, with whole channels, of which nothing is kept or denied, all is there, and no clock is free
+-- the board of well-formed tables, with whole channels, of which nothing is kept or denied, all is
+-- there, no clock is free, and the protocols are those of power domains and clocks
 abbrev pub board_in : BoardTables → Board
 board_in t =
     record {
@@ -138,6 +151,7 @@ board_in t =
       denied = nothing_denied;
       absent = nothing_held;
       free = 0;
+      protocols = own_protocols;
     }
 
 -- how many of the pending sets may be an agent's, all of them if its row says none
@@ -148,6 +162,12 @@ share_in pending = if pending == 0 then PENDING_SETS else pending
 abbrev pub channel_in : AgentRow → AgentChannel
 channel_in row =
     record { words = if row.bytes == 0 then PAYLOAD_WORDS else channel_words row.bytes; one_way = is_set row.one_way; share = share_in row.pending }
+
+-- what the heading says beside the board: its protocols, if there are any
+abbrev pub heading_lines : HeadingRow → List BoardLine
+heading_lines row =
+    if length (ids_in row.protocols) == 0 then []
+    else said.Protocols row.protocols ∷ []
 
 -- what the row of an agent says beside its name: its channels, and the devices that are denied to
 -- it as a whole, for the power protocol and for the clock protocol
@@ -177,10 +197,11 @@ abbrev pub lines_from : {Row : Type 0} → (ℕ → Row → List BoardLine) → 
 lines_from lines number [] = []
 lines_from lines number (row ∷ rows) = lines number row ++ lines_from lines (suc number) rows
 
--- what tables say beside their board: of each agent from 1, then of each domain and clock from 0
+-- what tables say beside their board: of each agent from 1, then of each domain and clock from 0, then of its protocols
 abbrev pub lines_in : BoardTables → List BoardLine
 lines_in t =
-    lines_from agent_lines 1 t.agents ++ lines_from domain_lines 0 t.domains ++ lines_from clock_lines 0 t.clocks
+    lines_from agent_lines 1 t.agents ++ lines_from domain_lines 0 t.domains
+    ++ lines_from clock_lines 0 t.clocks ++ heading_lines t.heading
 
 -- the rows of two boards are of the same number
 pub record HasRowsOf (old new : Board) : Type 0 where

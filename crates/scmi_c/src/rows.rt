@@ -1,6 +1,7 @@
 //! The rows of a board's tables, as a program in C writes them.
 
-/// The heading of a board. A name is its bytes up to the first zero.
+/// The heading of a board. A name is its bytes up to the first zero, and so are the ids of its
+/// protocols besides the base protocol; without any they are those of power domains and clocks.
 #[repr(C)]
 #[derive(Clone, Copy)]
 pub struct HeadingRow {
@@ -8,6 +9,7 @@ pub struct HeadingRow {
     pub sub_vendor: [u8; 16],
     pub version: u32,
     pub trusted: u32,
+    pub protocols: [u8; 16],
 }
 
 /// An agent: its name, the bytes of its channels' areas, 0 if they are whole, whether the platform
@@ -69,7 +71,7 @@ pub struct DeviceRow {
 }
 
 // The sizes that `include/scmi.h` has.
-const _: () = prove!(size_of::<HeadingRow>() == 40);
+const _: () = prove!(size_of::<HeadingRow>() == 56);
 
 const _: () = prove!(size_of::<AgentRow>() == 40);
 

@@ -1,15 +1,15 @@
-//! What the rows of a board's tables say beside the board: channels, what is denied, what is kept,
-//! what is not there, and which clocks are free.
+//! What the rows of a board's tables say beside the board: protocols, channels, what is denied, what
+//! is kept, what is not there, and which clocks are free.
 ghost use Rattle.std.specs.Prelude.{◌≡◌, ◌<◌, ◌^◌, length, true};
 ghost use Rattle.std.specs.List.{All};
 ghost use Rattle.scmi_plan.specs.Agent.{IsAgent};
 ghost use Rattle.scmi_plan.specs.Board.{IsChannel, with_denied};
 ghost use Rattle.scmi_board.specs.BoardLines.{IsLineOf, with_lines};
-ghost use Rattle.scmi_c.specs.Tables.{agent_lines, board_in, channel_in, clock_lines, domain_lines, is_channel_row, is_said_row, is_share_row, is_well_formed, lines_from, lines_in, said_if, share_in, tables_of, HasRowsOf};
+ghost use Rattle.scmi_c.specs.Tables.{agent_lines, board_in, channel_in, clock_lines, domain_lines, heading_lines, is_channel_row, is_heading, is_said_row, is_share_row, is_well_formed, lines_from, lines_in, said_if, share_in, tables_of, HasRowsOf};
 
-use crate::rows::{AgentRow, ClockRow, DomainRow};
+use crate::rows::{AgentRow, ClockRow, DomainRow, HeadingRow};
 use crate::tables::Tables;
-use scmi_board::{BoardLine, ChannelLine, DenyLine, apply_line};
+use scmi_board::{BoardLine, ChannelLine, DenyLine, apply_line, ids_of};
 use scmi_codec::{PAYLOAD_WORDS, channel_words};
 use scmi_plan::{AgentChannel, PENDING_SETS, Plan, Resource, Scope};
 
@@ -22,6 +22,17 @@ pub fn set_lines(plan: &mut Plan, tables: &Tables<'_>)
     set_agents(plan, tables.agents);
     set_domains(plan, tables.domains);
     set_clocks(plan, tables.clocks);
+    set_heading(plan, tables.heading);
+}
+
+/// Gives a board its protocols, if there are any.
+fn set_heading(plan: &mut Plan, row: &HeadingRow)
+    requires { is_heading row.now ≡ true }
+    ensures lines { plan.new ≡ with_lines plan.old (heading_lines row.now) }
+{
+    if !ids_of(&row.protocols).is_empty() {
+        apply_line(plan, &BoardLine::Protocols(row.protocols));
+    }
 }
 
 fn set_agents(plan: &mut Plan, rows: &[AgentRow])

@@ -1,12 +1,13 @@
 //! The tables of a board, and whether they are well formed in themselves.
 ghost use Rattle.std.specs.Prelude.{◌≡◌, ◌<◌, ◌==◌, ◌&&◌, nat_lt, length};
 ghost use Rattle.std.specs.List.{list_all, list_any};
-ghost use Rattle.scmi_c.specs.Tables.{ends_within, is_agent_row, is_channel_row, is_clock_row, is_denied_row, is_domain_row, is_mask_of, is_named, is_said_row, is_share_row, is_well_formed, is_zero, tables_of};
+ghost use Rattle.scmi_c.specs.Tables.{ends_within, is_agent_row, is_channel_row, is_clock_row, is_denied_row, is_domain_row, is_heading, is_mask_of, is_named, is_protocols, is_said_row, is_share_row, is_well_formed, is_zero, tables_of};
 
 use crate::rows::{AgentRow, ClockRow, DeviceRow, DomainRow, HeadingRow};
 use crate::tabled::name_length;
+use scmi_board::ids_of;
 use scmi_codec::is_channel_size;
-use scmi_plan::{MASK_BITS, PENDING_SETS};
+use scmi_plan::{MASK_BITS, PENDING_SETS, check_protocols};
 
 /// The tables of a board, as a program in C gives them.
 #[derive(Clone, Copy)]
@@ -25,11 +26,23 @@ pub struct Tables<'a> {
 pub fn is_well_formed(tables: &Tables<'_>) -> bool
     ensures { result ≡ is_well_formed (tables_of tables.now) }
 {
-    is_named(&tables.heading.vendor)
-        && is_named(&tables.heading.sub_vendor)
+    is_heading(tables.heading)
         && are_agents(tables.agents, tables.devices.len())
         && are_domains(tables.domains)
         && are_clocks(tables.clocks, tables.rates.len())
+}
+
+fn is_heading(row: &HeadingRow) -> bool
+    ensures { result ≡ is_heading row.now }
+{
+    is_named(&row.vendor) && is_named(&row.sub_vendor) && are_protocols(&row.protocols)
+}
+
+/// Whether these are ids that rise above that of the base protocol, and zeros behind them.
+fn are_protocols(ids: &[u8; 16]) -> bool
+    ensures { result ≡ is_protocols ids.now }
+{
+    check_protocols(ids_of(ids)).is_ok() && are_zeros(&ids[name_length(ids)..])
 }
 
 fn are_agents(agents: &[AgentRow], devices: usize) -> bool

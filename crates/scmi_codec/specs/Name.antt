@@ -14,6 +14,10 @@ pub record IsName (bytes : List ℕ) : Type 0 where
   pub few : length bytes ≤ NAME_BYTES
   pub printable : IsPrintable bytes
 
--- a name in a reply: sixteen bytes, the name's and zeros after them, four to a word, the first lowest
+-- sixteen bytes in a reply: those given and zeros after them, four to a word, the first lowest
+abbrev pub four_words : List ℕ → List ℕ
+four_words bytes = word_at 0 bytes ∷ word_at 4 bytes ∷ word_at 8 bytes ∷ word_at 12 bytes ∷ []
+
+-- a name in a reply
 abbrev pub name_words : List ℕ → List ℕ
-name_words name = word_at 0 name ∷ word_at 4 name ∷ word_at 8 name ∷ word_at 12 name ∷ []
+name_words name = four_words name

@@ -53,7 +53,7 @@ pub use header::{DELAYED_RESPONSE, Header, NOTIFICATION, TOKENS};
 pub use listing::{is_listed, listed_row, message_name, rows_of, wanted_words};
 pub use message::Message;
 pub use messages::{BASE_MESSAGES, CLOCK_MESSAGES, HeldRow, MessageRow, POWER_MESSAGES, Part};
-pub use name::{NAME_BYTES, Name, name_words};
+pub use name::{NAME_BYTES, Name, four_words, name_words};
 pub use payload::{
     PAYLOAD_WORDS, Payload, SUCCESS, is_success, payload_of, refusal, resize, set_payload,
     set_refusal,

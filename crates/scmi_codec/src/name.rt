@@ -1,6 +1,6 @@
 //! Names of agents, domains, clocks and vendors.
-ghost use Rattle.std.specs.Prelude.{◌≡◌, ◌↔◌, ◌++◌, ◌-◌, IsSome, IfSome, IsTrue, length, replicate};
-ghost use Rattle.scmi_codec.specs.Name.{IsName, IsPrintable, name_words};
+ghost use Rattle.std.specs.Prelude.{◌≤◌, ◌≡◌, ◌↔◌, ◌++◌, ◌-◌, IsSome, IfSome, IsTrue, length, replicate};
+ghost use Rattle.scmi_codec.specs.Name.{IsName, IsPrintable, four_words, name_words};
 
 use crate::word::read_word;
 use arrayvec::ArrayVec;
@@ -62,21 +62,29 @@ impl Name {
 pub fn name_words(name: &Name) -> [u32; 4]
     ensures { result ≡ name_words name.now }
 {
-    let bytes = padded_bytes(name);
+    four_words(name.bytes.as_slice())
+}
+
+/// At most sixteen bytes as four words of a reply, the first byte lowest, and zeros after them.
+pub fn four_words(bytes: &[u8]) -> [u32; 4]
+    requires { length bytes.now ≤ 16 }
+    ensures { result ≡ four_words bytes.now }
+{
+    let padded = padded_bytes(bytes);
     [
-        read_word(&bytes, 0),
-        read_word(&bytes, 4),
-        read_word(&bytes, 8),
-        read_word(&bytes, 12),
+        read_word(&padded, 0),
+        read_word(&padded, 4),
+        read_word(&padded, 8),
+        read_word(&padded, 12),
     ]
 }
 
-/// The bytes of a name, and zeros after them.
-fn padded_bytes(name: &Name) -> [u8; 16]
-    ensures { result ≡ name.now ++ replicate (16 - length name.now) 0 }
+/// The bytes, and zeros after them.
+fn padded_bytes(bytes: &[u8]) -> [u8; 16]
+    requires { length bytes.now ≤ 16 }
+    ensures { result ≡ bytes.now ++ replicate (16 - length bytes.now) 0 }
 {
-    let mut bytes = [0u8; 16];
-    let text = name.bytes.as_slice();
-    bytes[..text.len()].copy_from_slice(text);
-    bytes
+    let mut padded = [0u8; 16];
+    padded[..bytes.len()].copy_from_slice(bytes);
+    padded
 }

@@ -8,7 +8,6 @@ use Rattle.std.proofs.lemmas.Bool.Decides.{eqb_tells}
 use Rattle.scmi_plan.specs.Board.{Board}
 use Rattle.scmi_codec.specs.Reply.{reply_unless, bit_0}
 use Rattle.scmi_codec.specs.Header.{HeaderFields}
-use Rattle.scmi_codec.specs.Command.{command_of}
 use Rattle.scmi_codec.specs.Payload.{begins_with_success}
 use Rattle.scmi_codec.specs.declared.status.Status.{Status}
 use Rattle.scmi_codec.specs.declared.status.Status.TheVariants.{NotFound, InvalidParameters, NotSupported, Denied, Busy}
@@ -36,6 +35,7 @@ use Rattle.scmi_core.specs.Pending.{acceptance, accepted_sets, advances, pending
 use Rattle.scmi_core.specs.Outbox.{failed_response_for, failed_response_to, messages_made, made_by, outbox_after, sent_count, is_sent_by, response_for, response_to, notice_in, situation_after}
 use Rattle.scmi_core.specs.History.{deeds, deed_after, outbox}
 use Rattle.scmi_core.specs.Legal.{IsLegal}
+use Rattle.scmi_core.specs.ReadCommand.{command_on}
 use Rattle.scmi_core.specs.Reply.{fits_channel, reply_words}
 use Rattle.scmi_core.specs.Situation.{Situation, has_room, power_view, clock_view}
 use Rattle.scmi_core.specs.Tables.{load_at}
@@ -184,10 +184,10 @@ fits board h b header r had (Some p) e = let two = accept-room board b h header 
 
 -- a deed that completes and posts nothing
 settled : (board : Board) (h : List Deed) (deed : Deed) → is_advance deed.event ≡ false → ((a : ℕ) → is_sent_by a deed.event ≡ false) → completed_set board h deed.event ≡ None → failed_set board h deed.event ≡ None → restarted_by deed.event ≡ None
-    → advances h ≤ length (accepted_sets board h) → ((a : ℕ) → sent_count a h ≤ length (messages_made board a h)) → Fits board h (option_and_then (acceptance board) (added_success deed)) → HasBounds board (h ++ deed ∷ [])
+    → advances h ≤ length (accepted_sets board h) → ((a : ℕ) → sent_count a h ≤ length (messages_made board a h)) → Fits board h (option_and_then (acceptance board) (added_success board deed)) → HasBounds board (h ++ deed ∷ [])
 settled board h deed stays unsent none unfailed unrestarted enough enough_sent fit =
     let pend = pending_sets-push board h deed stays enough
-    ∙ ap (λ restarted. pending_left restarted (pending_sets board h) ++ option_to_list (option_and_then (acceptance board) (added_success deed))) unrestarted in
+    ∙ ap (λ restarted. pending_left restarted (pending_sets board h) ++ option_to_list (option_and_then (acceptance board) (added_success board deed))) unrestarted in
     record {
       pending = rw pend fit.few;
       loads = λ a.
@@ -287,8 +287,8 @@ bounds-more : (board : Board) (h : List Deed) (e : Event) → advances h ≤ len
 bounds-more board h (Command b (Good m)) enough enough_sent had =
     settled board h (deed_after board h (Command b (Good m))) refl (λ a. refl) refl refl refl enough enough_sent (by (fits_channel board b m)) where
       by : (short : Bool)
-          → Fits board h (option_and_then (acceptance board) (success_of b m.header (command_of m) (if short then reply_words board b (situation_after board b h) (command_of m) else [])))
-      by true = fits board h b m.header (command_of m) had _ refl
+          → Fits board h (option_and_then (acceptance board) (success_of b m.header (command_on board m) (if short then reply_words board b (situation_after board b h) (command_on board m) else [])))
+      by true = fits board h b m.header (command_on board m) had _ refl
       by false = fits-none board h had
 bounds-more board h (Command b (Malformed len header)) enough enough_sent had =
     settled board h (deed_after board h (Command b (Malformed len header))) refl (λ a. refl) refl refl refl enough enough_sent (fits-none board h had)

@@ -4,7 +4,6 @@ use Rattle.std.specs.List.{All}
 use Rattle.std.specs.Option.{option_and_then, option_or, option_to_list}
 use Rattle.std.proofs.lemmas.List.{append_assoc, append-nil}
 use Rattle.std.proofs.lemmas.List.Elements.{All-append, All-cons, All-drop, All-head, All-map, All-nil, All-same, All-weaker}
-use Rattle.scmi_codec.specs.Command.{command_of}
 use Rattle.scmi_codec.specs.Header.{HeaderFields}
 use Rattle.scmi_codec.specs.Payload.{begins_with_success}
 use Rattle.scmi_codec.specs.Reply.{bit_0, reply_unless}
@@ -37,6 +36,7 @@ use Rattle.scmi_core.specs.Laws.{HasCause, HasIntegrity, HasOrigin, IsKeptOn, Is
 use Rattle.scmi_core.specs.Legal.{CanFollow, IsLegal}
 use Rattle.scmi_core.specs.Outbox.{situation_after}
 use Rattle.scmi_core.specs.Pending.{acceptance, pending_sets, rate_set, state_set, unwanted}
+use Rattle.scmi_core.specs.ReadCommand.{command_on}
 use Rattle.scmi_core.specs.Reply.{fits_channel, reply_words}
 use Rattle.scmi_core.specs.Situation.{Situation, clock_view, power_view}
 use Rattle.scmi_core.specs.Value.{Change, Enabled, Rate, State, bit_value, change_now, change_reported, changes, completion}
@@ -227,7 +227,7 @@ origin-kept board h e change (inr had) = inr (reported-kept board h e change had
 
 -- a command is the cause of what it asked for
 cause : (board : Board) (h : List Event) (a : ℕ) (m : Message) (change : Change) → IsAgent (length board.agents) a
-    → option_and_then (change_asked board) (success_at (Command a (Good m)) (deed_after board (deeds board h) (Command a (Good m))).reply) ≡ Some change → HasCause board (h ++ Command a (Good m) ∷ []) change
+    → option_and_then (change_asked board) (success_at board (Command a (Good m)) (deed_after board (deeds board h) (Command a (Good m))).reply) ≡ Some change → HasCause board (h ++ Command a (Good m) ∷ []) change
 cause board h a m change agent asked =
     let is = given (fits_channel board a m) asked in
     let back = sym is.causer in
@@ -237,14 +237,14 @@ cause board h a m change agent asked =
       after = [];
       place = ap (λ x. h ++ Command x (Good m) ∷ []) back;
       agent = subst (IsAgent (length board.agents)) back agent;
-      asked = subst (λ x. option_and_then (change_asked board) (success_at (Command x (Good m)) (deed_after board (deeds board h) (Command x (Good m))).reply) ≡ Some change) back asked;
+      asked = subst (λ x. option_and_then (change_asked board) (success_at board (Command x (Good m)) (deed_after board (deeds board h) (Command x (Good m))).reply) ≡ Some change) back asked;
       allowed = subst (λ x. may_after board h x change.thing ≡ true) back is.allowed;
       kept = is.kept;
     } where
       given : (short : Bool)
-          → option_and_then (change_asked board) (success_of a m.header (command_of m) (if short then reply_words board a (situation_after board a (deeds board h)) (command_of m) else [])) ≡ Some change
+          → option_and_then (change_asked board) (success_of a m.header (command_on board m) (if short then reply_words board a (situation_after board a (deeds board h)) (command_on board m) else [])) ≡ Some change
           → IsOwn board a (situation_after board a (deeds board h)) change
-      given true asked = asked-own board a m.header (situation_after board a (deeds board h)) change (command_of m) asked
+      given true asked = asked-own board a m.header (situation_after board a (deeds board h)) change (command_on board m) asked
       given false asked = absurd (cc)
 
 -- each change so far has its cause or was reported, and each that a pending set is to make has its cause
@@ -289,7 +289,7 @@ module _ (board : Board) (h : List Event) (legal : IsLegal board h) (had : HasCa
 
   causes : (e : Event) → CanFollow board h e → HasCauses board (h ++ e ∷ [])
   causes (Command a (Good m)) follows =
-      let success = success_at (Command a (Good m)) (deed_after board (deeds board h) (Command a (Good m))).reply in
+      let success = success_at board (Command a (Good m)) (deed_after board (deeds board h) (Command a (Good m))).reply in
       let set = option_and_then (acceptance board) success in
       causes-more board h (Command a (Good m)) legal had
       (λ change is. inl (cause board h a m change follows (now-asked board success change is)))

@@ -5,7 +5,6 @@ use Rattle.std.specs.Option.{option_and_then, option_map_or, option_or, option_t
 use Rattle.std.proofs.lemmas.List.{append-nil}
 use Rattle.std.proofs.lemmas.List.Elements.{All-append, All-cons, All-drop, All-head, All-map, All-nil, All-take}
 use Rattle.std.proofs.lemmas.Bool.{cases_Bool, eqb-true}
-use Rattle.scmi_codec.specs.Command.{command_of}
 use Rattle.scmi_codec.specs.Header.{HeaderFields}
 use Rattle.scmi_codec.specs.Payload.{begins_with_success}
 use Rattle.scmi_codec.specs.Reply.{bit_0, reply_unless}
@@ -41,6 +40,7 @@ use Rattle.scmi_core.specs.History.{answer_to, deed_after, deeds, made_for, outb
 use Rattle.scmi_core.specs.Legal.{IsLegal}
 use Rattle.scmi_core.specs.Outbox.{failed_response_for, failed_response_to, failed_words, is_restart_of, made_in, message_with, messages_left, messages_made, notice_in, response_for, response_to, sent_count, situation_after, state_changed}
 use Rattle.scmi_core.specs.Pending.{acceptance, sets_by, unwanted}
+use Rattle.scmi_core.specs.ReadCommand.{command_on}
 use Rattle.scmi_core.specs.Reply.{fits_channel, reply_words}
 use Rattle.scmi_core.specs.Situation.{Situation, clock_view, power_view}
 use Rattle.scmi_core.specs.Subscriptions.{subscription, subscription_after_reset, subscription_at}
@@ -56,8 +56,8 @@ use Rattle.scmi_core.proofs.Situations.{nothing_if}
 answer-within : (board : Board) (a : ℕ) (frame : Frame) (h : List Event) → IsValid board → IsAnswerWithin board a (answer_to board a frame h)
 answer-within board a (Good m) h law = by (fits_channel board a m) where
   by : (short : Bool)
-      → IsAnswerWithin board a (if short then Reply (message_with m.header (reply_words board a (situation_after board a (deeds board h)) (command_of m))) else ChannelError)
-  by true = reply-within board a (situation_after board a (deeds board h)) (command_of m) law
+      → IsAnswerWithin board a (if short then Reply (message_with m.header (reply_words board a (situation_after board a (deeds board h)) (command_on board m))) else ChannelError)
+  by true = reply-within board a (situation_after board a (deeds board h)) (command_on board m) law
   by false = tt
 answer-within board a (Malformed len header) h law = tt
 
@@ -359,11 +359,11 @@ module _ (board : Board) (b : ℕ) (one_way : IsOneWay board b) where
       by (inr another) = another
 
   module _ (h : List Deed) (s : Situation) (quiet : IsUnsent b s) where
-    unsubscribed : (e : Event) (d : ℕ) → unwrap_or (subscription_at b d (deed_after board h e)) (s.subscribed d) ≡ false
+    unsubscribed : (e : Event) (d : ℕ) → unwrap_or (subscription_at board b d (deed_after board h e)) (s.subscribed d) ≡ false
     unsubscribed (Command a (Good m)) d = by (fits_channel board a m) where
       by : (short : Bool)
-          → unwrap_or (option_and_then (subscription b d) (success_of a m.header (command_of m) (if short then reply_words board a (situation_after board a h) (command_of m) else []))) (s.subscribed d) ≡ false
-      by true = off a m.header (situation_after board a h) (command_of m) d (s.subscribed d) (quiet.subscribed d)
+          → unwrap_or (option_and_then (subscription b d) (success_of a m.header (command_on board m) (if short then reply_words board a (situation_after board a h) (command_on board m) else []))) (s.subscribed d) ≡ false
+      by true = off a m.header (situation_after board a h) (command_on board m) d (s.subscribed d) (quiet.subscribed d)
       by false = quiet.subscribed d
     unsubscribed (Command a (Malformed len header)) d = quiet.subscribed d
     unsubscribed (CommandFailed a (Good m) fault) d = quiet.subscribed d
@@ -386,8 +386,8 @@ module _ (board : Board) (b : ℕ) (one_way : IsOneWay board b) where
     not-pending : (e : Event) → All (λ p. (p.agent == b) ≡ false) (pending_next board s.pending (deed_after board h e))
     not-pending (Command a (Good m)) = All-append (λ p. (p.agent == b) ≡ false) s.pending _ quiet.pending (by (fits_channel board a m)) where
       by : (short : Bool)
-          → All (λ p. (p.agent == b) ≡ false) (option_to_list (option_and_then (acceptance board) (success_of a m.header (command_of m) (if short then reply_words board a (situation_after board a h) (command_of m) else []))))
-      by true = others a m.header (situation_after board a h) (command_of m)
+          → All (λ p. (p.agent == b) ≡ false) (option_to_list (option_and_then (acceptance board) (success_of a m.header (command_on board m) (if short then reply_words board a (situation_after board a h) (command_on board m) else []))))
+      by true = others a m.header (situation_after board a h) (command_on board m)
       by false = All-nil (λ p. (p.agent == b) ≡ false)
     not-pending (Command a (Malformed len header)) = none-more
     not-pending (CommandFailed a (Good m) fault) = none-more

@@ -5,7 +5,6 @@ use Rattle.std.specs.Option.{option_and_then, option_or}
 use Rattle.std.proofs.lemmas.Bool.{leb-false, or_parts}
 use Rattle.std.proofs.lemmas.List.{append-nil}
 use Rattle.scmi_codec.specs.Header.{HeaderFields}
-use Rattle.scmi_codec.specs.Command.{command_of}
 use Rattle.scmi_codec.specs.Payload.{begins_with_success, if_success}
 use Rattle.scmi_codec.specs.Reply.{Check, bit_0, other_bits, reply_unless}
 use Rattle.scmi_codec.specs.declared.status.Status.{Status}
@@ -34,6 +33,7 @@ use Rattle.scmi_plan.specs.declared.effect.Effect.TheVariants as effect
 use Rattle.scmi_core.specs.declared.tables.Tables.{Tables}
 use Rattle.scmi_core.specs.Deed.{success_of, success_with}
 use Rattle.scmi_core.specs.Effect.{clock_effect, effect_in, effect_of, effect_read, state_effect}
+use Rattle.scmi_core.specs.ReadCommand.{command_on}
 use Rattle.scmi_core.specs.Reply.{answer_in, fits_channel, reply_in, reply_words}
 use Rattle.scmi_core.specs.Situation.{Situation, clock_view, power_view}
 use Rattle.scmi_core.specs.Step.{HasAnswered, HasStepped, SameButOutboxes, announced_at}
@@ -276,12 +276,12 @@ module _ (board : Board) (a : ℕ) (header : HeaderFields) (s : Situation) where
 
 -- what a reply of SUCCESS alone leaves is what the message leaves
 answered : (board : Board) (a : ℕ) (m : Message) (t new : Tables) (r : Result codec.Command Status)
-    → fits_channel board a m ≡ true → command_of m ≡ r → reply_words board a (situation_in a t) (command_of m) ≡ 0 ∷ []
+    → fits_channel board a m ≡ true → command_on board m ≡ r → reply_words board a (situation_in a t) (command_on board m) ≡ 0 ∷ []
     → HasStepped board t (success_of a m.header r (0 ∷ [])) None new → HasAnswered board a (Good m) t new
 answered board a m t new r short read reply stepped =
     subst (λ o. HasStepped board t o None new)
     (ap (λ c. success_of a m.header c (0 ∷ [])) (sym read)
-    ∙ ap (success_of a m.header (command_of m)) (sym (ap (λ b. if b then reply_words board a (situation_in a t) (command_of m) else []) short ∙ reply)))
+    ∙ ap (success_of a m.header (command_on board m)) (sym (ap (λ b. if b then reply_words board a (situation_in a t) (command_on board m) else []) short ∙ reply)))
     stepped
 
 -- a message that fits its channel is answered by its reply
@@ -290,10 +290,10 @@ answer-fits board a m s short = ap (λ b. if b then Reply (reply_in board a m s)
 
 -- a message with an effect fits its channel
 pub effect-fits : (board : Board) (a : ℕ) (m : Message) (s : Situation) (e : Effect) → effect_in board a (Good m) s ≡ Some e
-    → (fits_channel board a m ≡ true) × (effect_by board a m.header s (command_of m) ≡ Some e)
+    → (fits_channel board a m ≡ true) × (effect_by board a m.header s (command_on board m) ≡ Some e)
 effect-fits board a m s e = by (fits_channel board a m) refl where
   by : (b : Bool) → fits_channel board a m ≡ b → (if b then effect_read board a m s else None) ≡ Some e
-      → (fits_channel board a m ≡ true) × (effect_by board a m.header s (command_of m) ≡ Some e)
+      → (fits_channel board a m ≡ true) × (effect_by board a m.header s (command_on board m) ≡ Some e)
   by true short has = (short, has)
   by false long has = absurd (cc)
 
@@ -308,7 +308,7 @@ pub state-committed : (board : Board) (t new : Tables) (power' : PowerTables) (a
     → HasAnswered board a (Good m) t new
 state-committed board t new power' a m d state differs law lo hi has states subs says kept told =
     let fit = effect-fits board a m (situation_in a t) (effect.State d state) has in
-    let set = state-set board a m.header (situation_in a t) (command_of m) d state fit.1 in
+    let set = state-set board a m.header (situation_in a t) (command_on board m) d state fit.1 in
     answered board a m t new (Ok (Power set.command)) fit.0 set.read set.reply
     (power-stepped board t (record { base = t.base; power = power'; clocks = t.clocks; pending = t.pending; outboxes = t.outboxes }) new power' a m.header set.command
     (0 ∷ []) (Some (d, state)) None differs law.few_domains law.few_agents lo hi (sym set.now) (sym set.later) states
@@ -327,7 +327,7 @@ pub rate-committed : (board : Board) (t new : Tables) (clocks' : ClockTables) (a
     → HasAnswered board a (Good m) t new
 rate-committed board t new clocks' a m c rate law lo hi has rates same is =
     let fit = effect-fits board a m (situation_in a t) (effect.Rate c rate) has in
-    let set = rate-set board a m.header (situation_in a t) (command_of m) c rate fit.1 in
+    let set = rate-set board a m.header (situation_in a t) (command_on board m) c rate fit.1 in
     rw is (answered board a m t (record { base = t.base; power = t.power; clocks = clocks'; pending = t.pending; outboxes = t.outboxes }) (Ok (Clock set.command)) fit.0 set.read set.reply
     (clock-stepped board t (record { base = t.base; power = t.power; clocks = clocks'; pending = t.pending; outboxes = t.outboxes }) clocks' a m.header set.command
     (0 ∷ []) None law.few_clocks lo hi (sym set.later)
@@ -346,7 +346,7 @@ pub enabled-committed : (board : Board) (t new : Tables) (clocks' : ClockTables)
     → HasAnswered board a (Good m) t new
 enabled-committed board t new clocks' a m c enabled law lo hi has same configured is =
     let fit = effect-fits board a m (situation_in a t) (effect.Enabled c enabled) has in
-    let set = config-set board a m.header (situation_in a t) (command_of m) c enabled fit.1 in
+    let set = config-set board a m.header (situation_in a t) (command_on board m) c enabled fit.1 in
     rw is (answered board a m t (record { base = t.base; power = t.power; clocks = clocks'; pending = t.pending; outboxes = t.outboxes }) (Ok (Clock set.command)) fit.0 set.read set.reply
     (clock-stepped board t (record { base = t.base; power = t.power; clocks = clocks'; pending = t.pending; outboxes = t.outboxes }) clocks' a m.header set.command
     (0 ∷ []) None law.few_clocks lo hi (sym set.later)

@@ -49,19 +49,19 @@ latest-filter_map f d xs o =
     ∙ latest-append d (filter_map f xs) (option_and_then f o)
 
 -- what a deed adds to the successes
-abbrev pub added_success : Deed → Option Success
-added_success deed = success_at deed.event deed.reply
+abbrev pub added_success : Board → Deed → Option Success
+added_success board deed = success_at board deed.event deed.reply
 
-pub successes-push : (h : List Deed) (deed : Deed) → successes (h ++ deed ∷ []) ≡ successes h ++ option_to_list (added_success deed)
-successes-push h deed =
-    filter_map-append (λ e. success_at e.event e.reply) h (deed ∷ [])
-    ∙ ap (λ ys. successes h ++ ys) (cons-to_list (added_success deed))
+pub successes-push : (board : Board) (h : List Deed) (deed : Deed) → successes board (h ++ deed ∷ []) ≡ successes board h ++ option_to_list (added_success board deed)
+successes-push board h deed =
+    filter_map-append (λ e. success_at board e.event e.reply) h (deed ∷ [])
+    ∙ ap (λ ys. successes board h ++ ys) (cons-to_list (added_success board deed))
 
 pub has_permission-push : (board : Board) (a d : ℕ) (scope : Scope) (h : List Deed) (deed : Deed)
-    → has_permission board a d scope (h ++ deed ∷ []) ≡ unwrap_or (option_and_then (λ s. permission_in board a d scope s.command) (added_success deed)) (has_permission board a d scope h)
+    → has_permission board a d scope (h ++ deed ∷ []) ≡ unwrap_or (option_and_then (λ s. permission_in board a d scope s.command) (added_success board deed)) (has_permission board a d scope h)
 has_permission-push board a d scope h deed =
-    ap (λ ss. latest (is_allowed board.denied a d scope) (filter_map (λ s. permission_in board a d scope s.command) ss)) (successes-push h deed)
-    ∙ latest-filter_map (λ s. permission_in board a d scope s.command) (is_allowed board.denied a d scope) (successes h) (added_success deed)
+    ap (λ ss. latest (is_allowed board.denied a d scope) (filter_map (λ s. permission_in board a d scope s.command) ss)) (successes-push board h deed)
+    ∙ latest-filter_map (λ s. permission_in board a d scope s.command) (is_allowed board.denied a d scope) (successes board h) (added_success board deed)
 
 pub changes-push : (board : Board) (h : List Deed) (deed : Deed) → changes board (h ++ deed ∷ []) ≡ changes board h ++ option_to_list (change_by board h deed)
 changes-push board h deed = fold_with_prefix-push (λ before so_far x. so_far ++ option_to_list (change_by board before x)) [] [] h deed
@@ -75,14 +75,14 @@ value-push board t h deed =
     ap (λ cs. latest (value_at_start board t) (filter_map (value_in t) cs)) (changes-push board h deed)
     ∙ latest-filter_map (value_in t) (value_at_start board t) (changes board h) (change_by board h deed)
 
-pub is_subscriber-push : (a d : ℕ) (h : List Deed) (deed : Deed) → is_subscriber a d (h ++ deed ∷ []) ≡ unwrap_or (subscription_at a d deed) (is_subscriber a d h)
-is_subscriber-push a d h deed = latest-filter_map (subscription_at a d) false h (Some deed)
+pub is_subscriber-push : (board : Board) (a d : ℕ) (h : List Deed) (deed : Deed) → is_subscriber board a d (h ++ deed ∷ []) ≡ unwrap_or (subscription_at board a d deed) (is_subscriber board a d h)
+is_subscriber-push board a d h deed = latest-filter_map (subscription_at board a d) false h (Some deed)
 
 pub accepted_sets-push : (board : Board) (h : List Deed) (deed : Deed) → accepted_sets board (h ++ deed ∷ [])
-    ≡ sets_left (advances h) (restarted_by deed.event) (accepted_sets board h) ++ option_to_list (option_and_then (acceptance board) (added_success deed))
+    ≡ sets_left (advances h) (restarted_by deed.event) (accepted_sets board h) ++ option_to_list (option_and_then (acceptance board) (added_success board deed))
 accepted_sets-push board h deed =
     fold_with_prefix-push
-    (λ before so_far x. sets_left (advances before) (restarted_by x.event) so_far ++ option_to_list (option_and_then (acceptance board) (added_success x)))
+    (λ before so_far x. sets_left (advances before) (restarted_by x.event) so_far ++ option_to_list (option_and_then (acceptance board) (added_success board x)))
     [] [] h deed
 
 map_length : {X Y : Type 0} (f : X → Y) (xs : List X) → length (map f xs) ≡ length xs
@@ -153,13 +153,13 @@ advances-push h deed = fold-append (λ n e. n + (if is_advance e.event then 1 el
 
 -- an event that is no Advance leaves the pending sets, though a restart makes some unwanted, and may add one
 pub pending_sets-push : (board : Board) (h : List Deed) (deed : Deed) → is_advance deed.event ≡ false → advances h ≤ length (accepted_sets board h)
-    → pending_sets board (h ++ deed ∷ []) ≡ pending_left (restarted_by deed.event) (pending_sets board h) ++ option_to_list (option_and_then (acceptance board) (added_success deed))
+    → pending_sets board (h ++ deed ∷ []) ≡ pending_left (restarted_by deed.event) (pending_sets board h) ++ option_to_list (option_and_then (acceptance board) (added_success board deed))
 pending_sets-push board h deed other enough =
     let zero_more : advances h + 0 ≡ advances h = omega arith in
     let same : advances (h ++ deed ∷ []) ≡ advances h = advances-push h deed ∙ ap (λ b. advances h + (if b then 1 else 0)) other ∙ zero_more in
     let left = sets_left (advances h) (restarted_by deed.event) (accepted_sets board h) in
     let size = sets_left-length (advances h) (restarted_by deed.event) (accepted_sets board h) in
-    let more = option_to_list (option_and_then (acceptance board) (added_success deed)) in
+    let more = option_to_list (option_and_then (acceptance board) (added_success board deed)) in
     ap (λ n. drop n (accepted_sets board (h ++ deed ∷ []))) same
     ∙ ap (drop (advances h)) (accepted_sets-push board h deed)
     ∙ drop-append-le (advances h) left more (omega arith)

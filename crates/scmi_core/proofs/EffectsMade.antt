@@ -224,4 +224,4 @@ advance-kept board h e legal other some =
     ap (λ ds'. option_map effect_of (option_or (option_map completion (slice_get (pending_sets board ds') 0)) None)) (deeds-push board h e)
     ∙ ap (λ p. option_map effect_of (option_or (option_map completion (slice_get p 0)) None))
     (pending_sets-push board ds deed (ap is_advance (deed-event board ds e) ∙ other) (advances_le-accepted board h legal))
-    ∙ ap (λ o. option_map effect_of (option_or o None)) (first-kept (restarted_by deed.event) (pending_sets board ds) (option_to_list (option_and_then (acceptance board) (added_success deed))) some)
+    ∙ ap (λ o. option_map effect_of (option_or o None)) (first-kept (restarted_by deed.event) (pending_sets board ds) (option_to_list (option_and_then (acceptance board) (added_success board deed))) some)

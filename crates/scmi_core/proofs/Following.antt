@@ -30,10 +30,10 @@ failed_in pending (AdvanceFailed fault) = slice_get pending 0
 failed_in pending _ = None
 
 abbrev pub change_in : Board → List PendingSet → Deed → Option Change
-change_in board pending deed = option_or (reported deed.event) (change_of board (added_success deed) (completed_in pending deed.event))
+change_in board pending deed = option_or (reported deed.event) (change_of board (added_success board deed) (completed_in pending deed.event))
 
 abbrev pub pending_next : Board → List PendingSet → Deed → List PendingSet
-pending_next board pending deed = if is_advance deed.event then drop 1 pending else pending_left (restarted_by deed.event) pending ++ option_to_list (option_and_then (acceptance board) (added_success deed))
+pending_next board pending deed = if is_advance deed.event then drop 1 pending else pending_left (restarted_by deed.event) pending ++ option_to_list (option_and_then (acceptance board) (added_success board deed))
 
 abbrev pub made_next : Board → ℕ → Situation → Deed → List Message
 made_next board b s deed =
@@ -45,8 +45,8 @@ abbrev pub next : Board → ℕ → Situation → Deed → Situation
 next board b s deed =
     record {
       value = λ x. unwrap_or (option_and_then (value_in x) (change_in board s.pending deed)) (s.value x);
-      allowed = λ d scope. unwrap_or (option_and_then (λ it. permission_in board b d scope it.command) (added_success deed)) (s.allowed d scope);
-      subscribed = λ d. unwrap_or (subscription_at b d deed) (s.subscribed d);
+      allowed = λ d scope. unwrap_or (option_and_then (λ it. permission_in board b d scope it.command) (added_success board deed)) (s.allowed d scope);
+      subscribed = λ d. unwrap_or (subscription_at board b d deed) (s.subscribed d);
       pending = pending_next board s.pending deed;
       outbox = if is_sent_by b deed.event then drop 1 s.outbox else (if is_restart_of b deed.event then [] else s.outbox) ++ made_next board b s deed;
     }
@@ -70,7 +70,7 @@ failed_is board h (Restarted a) = refl
 failed_is board h (Reported effect) = refl
 
 pub change-is : (board : Board) (h : List Deed) (deed : Deed) → change_by board h deed ≡ change_in board (pending_sets board h) deed
-change-is board h deed = ap (λ done. option_or (reported deed.event) (change_of board (added_success deed) done)) (completed_is board h deed.event)
+change-is board h deed = ap (λ done. option_or (reported deed.event) (change_of board (added_success board deed) done)) (completed_is board h deed.event)
 
 pub pending-next : (board : Board) (h : List Deed) (e : Event) → advances h ≤ length (accepted_sets board h)
     → pending_sets board (h ++ deed_after board h e ∷ []) ≡ pending_next board (pending_sets board h) (deed_after board h e)
@@ -95,7 +95,7 @@ module _ (board : Board) (b : ℕ) (h : List Deed) where
       let deed = deed_after board h e in
       ap (λ left. option_map_or (failed_response_for b (fault_in deed.event)) (failed_set board h deed.event) [] ++ made_in b stood left (completed_set board h deed.event) (change_by board h deed)) (pending-next board h e enough)
       ∙ ap (λ failed. option_map_or (failed_response_for b (fault_in deed.event)) failed [] ++ made_in b stood (pending_next board stood.pending deed) (completed_set board h deed.event) (change_by board h deed)) (failed_is board h deed.event)
-      ∙ ap (λ done. option_map_or (failed_response_for b (fault_in deed.event)) (failed_in stood.pending deed.event) [] ++ made_in b stood (pending_next board stood.pending deed) done (option_or (reported deed.event) (change_of board (added_success deed) done))) (completed_is board h deed.event)
+      ∙ ap (λ done. option_map_or (failed_response_for b (fault_in deed.event)) (failed_in stood.pending deed.event) [] ++ made_in b stood (pending_next board stood.pending deed) done (option_or (reported deed.event) (change_of board (added_success board deed) done))) (completed_is board h deed.event)
 
   pub messages-next : (e : Event) → advances h ≤ length (accepted_sets board h)
       → messages_made board b (h ++ deed_after board h e ∷ []) ≡ messages_left (sent_count b h) (is_restart_of b (deed_after board h e).event) (messages_made board b h) ++ made_next board b stood (deed_after board h e)
@@ -143,7 +143,7 @@ module _ (board : Board) (b : ℕ) (h : List Deed) where
       record {
         value = λ x. (value-push board x h deed ∙ ap (λ change. unwrap_or (option_and_then (value_in x) change) (stood.value x)) (change-is board h deed)) i;
         allowed = λ d scope. has_permission-push board b d scope h deed i;
-        subscribed = λ d. is_subscriber-push b d h deed i;
+        subscribed = λ d. is_subscriber-push board b d h deed i;
         pending = pending-next board h e enough i;
         outbox = outbox-next e enough enough_sent i;
       }

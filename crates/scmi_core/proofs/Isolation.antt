@@ -5,7 +5,6 @@ use Rattle.std.specs.Option.{is_some, option_and_then, option_map_or, option_or,
 use Rattle.std.proofs.lemmas.List.{append-nil}
 use Rattle.std.proofs.lemmas.List.Elements.{filter_map-append}
 use Rattle.std.proofs.lemmas.Bool.{cases_Bool, eqb-true}
-use Rattle.scmi_codec.specs.Command.{command_of}
 use Rattle.scmi_codec.specs.Payload.{begins_with_success}
 use Rattle.scmi_codec.specs.declared.frame.Frame.{Frame}
 use Rattle.scmi_codec.specs.declared.frame.Frame.TheVariants.{Good, Malformed}
@@ -23,6 +22,7 @@ use Rattle.scmi_core.specs.Legal.{CanFollow, IsLegal}
 use Rattle.scmi_core.specs.Outbox.{failed_response_for, is_restart_of, is_sent_by, made_in, messages_left, messages_made, sent_count, situation_after}
 use Rattle.scmi_core.specs.Pending.{acceptance, is_advance, pending_sets}
 use Rattle.scmi_core.specs.Permissions.{permission_in}
+use Rattle.scmi_core.specs.ReadCommand.{command_on}
 use Rattle.scmi_core.specs.Reply.{answer_in}
 use Rattle.scmi_core.specs.Situation.{Situation}
 use Rattle.scmi_core.specs.Subscriptions.{subscription, subscription_after_reset}
@@ -36,8 +36,8 @@ use Rattle.scmi_core.proofs.Situations.{nothing-made}
 -- A COMMAND THAT WAS REFUSED
 
 -- a deed that succeeds in nothing, ends no set, posts nothing, restarts no agent and reports no change
-record IsIdleDeed (deed : Deed) : Type 0 where
-  pub no_success : added_success deed ≡ None
+record IsIdleDeed (board : Board) (deed : Deed) : Type 0 where
+  pub no_success : added_success board deed ≡ None
   pub stays : is_advance deed.event ≡ false
   pub unsent : (b : ℕ) → is_sent_by b deed.event ≡ false
   pub uncompleted : (pending : List PendingSet) → completed_in pending deed.event ≡ None
@@ -46,16 +46,16 @@ record IsIdleDeed (deed : Deed) : Type 0 where
   pub unreported : reported deed.event ≡ None
 
 -- it changes nothing, and makes nothing for an agent
-module _ (board : Board) (b : ℕ) (s : Situation) (deed : Deed) (idle : IsIdleDeed deed) where
+module _ (board : Board) (b : ℕ) (s : Situation) (deed : Deed) (idle : IsIdleDeed board deed) where
   no-change : change_in board s.pending deed ≡ None
   no-change =
-      ap (λ said. option_or said (change_of board (added_success deed) (completed_in s.pending deed.event))) idle.unreported
+      ap (λ said. option_or said (change_of board (added_success board deed) (completed_in s.pending deed.event))) idle.unreported
       ∙ ap (λ success. change_of board success (completed_in s.pending deed.event)) idle.no_success ∙ ap (change_of board None) (idle.uncompleted s.pending)
 
   same-pending : pending_next board s.pending deed ≡ s.pending
   same-pending =
-      ap (λ ends. if ends then drop 1 s.pending else pending_left (restarted_by deed.event) s.pending ++ option_to_list (option_and_then (acceptance board) (added_success deed))) idle.stays
-      ∙ ap (λ restarted. pending_left restarted s.pending ++ option_to_list (option_and_then (acceptance board) (added_success deed))) idle.unrestarted
+      ap (λ ends. if ends then drop 1 s.pending else pending_left (restarted_by deed.event) s.pending ++ option_to_list (option_and_then (acceptance board) (added_success board deed))) idle.stays
+      ∙ ap (λ restarted. pending_left restarted s.pending ++ option_to_list (option_and_then (acceptance board) (added_success board deed))) idle.unrestarted
       ∙ ap (λ success. s.pending ++ option_to_list (option_and_then (acceptance board) success)) idle.no_success
       ∙ append-nil s.pending
 
@@ -79,7 +79,7 @@ module _ (board : Board) (b : ℕ) (s : Situation) (deed : Deed) (idle : IsIdleD
         value = λ x. ap (λ change. unwrap_or (option_and_then (value_in x) change) (s.value x)) no-change i;
         allowed = λ d scope. ap (λ success. unwrap_or (option_and_then (λ it. permission_in board b d scope it.command) success) (s.allowed d scope)) idle.no_success i;
         subscribed = λ d.
-            (ap (λ restarted. unwrap_or (option_or (subscription_after_reset b restarted) (option_and_then (subscription b d) (added_success deed))) (s.subscribed d)) idle.unrestarted
+            (ap (λ restarted. unwrap_or (option_or (subscription_after_reset b restarted) (option_and_then (subscription b d) (added_success board deed))) (s.subscribed d)) idle.unrestarted
             ∙ ap (λ success. unwrap_or (option_and_then (subscription b d) success) (s.subscribed d)) idle.no_success) i;
         pending = same-pending i;
         outbox = same-outbox i;
@@ -92,7 +92,7 @@ record IsUnmoved (board : Board) (h k : List Event) : Type 0 where
   pub changed : changes board (deeds board h) ≡ changes board (deeds board k)
   pub situations : (b : ℕ) → situation_after board b (deeds board h) ≡ situation_after board b (deeds board k)
 
-idle-unmoved : (board : Board) (h : List Event) (e : Event) → IsLegal board h → IsIdleDeed (deed_after board (deeds board h) e) → IsUnmoved board (h ++ e ∷ []) h
+idle-unmoved : (board : Board) (h : List Event) (e : Event) → IsLegal board h → IsIdleDeed board (deed_after board (deeds board h) e) → IsUnmoved board (h ++ e ∷ []) h
 idle-unmoved board h e legal idle =
     let ds = deeds board h in
     let deed = deed_after board ds e in
@@ -129,14 +129,14 @@ not_true false is = refl
 
 -- a refused command is such a deed, and another agent's
 record Refused (board : Board) (a : ℕ) (h : List Event) (e : Event) : Type 0 where
-  pub idle : IsIdleDeed (deed_after board (deeds board h) e)
+  pub idle : IsIdleDeed board (deed_after board (deeds board h) e)
   pub frames : (b : ℕ) → b ≢ a → frames_of b (h ++ e ∷ []) ≡ frames_of b h
   pub answers : (b : ℕ) → b ≢ a → answers_to board b (h ++ e ∷ []) ≡ answers_to board b h
 
 command-idle : (board : Board) (h : List Event) (c : ℕ) (frame : Frame) → begins_with_success (deed_after board (deeds board h) (Command c frame)).reply ≡ false
-    → IsIdleDeed (deed_after board (deeds board h) (Command c frame))
+    → IsIdleDeed board (deed_after board (deeds board h) (Command c frame))
 command-idle board h c (Good m) fails = record {
-  no_success = ap (λ success. if success then success_with c m.header (command_of m) else None) fails;
+  no_success = ap (λ success. if success then success_with c m.header (command_on board m) else None) fails;
   stays = refl;
   unsent = λ b. refl;
   uncompleted = λ pending. refl;
@@ -146,7 +146,7 @@ command-idle board h c (Good m) fails = record {
 }
 command-idle board h c (Malformed len header) fails = record { no_success = refl; stays = refl; unsent = λ b. refl; uncompleted = λ pending. refl; unfailed = λ pending. refl; unrestarted = refl; unreported = refl }
 
-failed-idle : (board : Board) (h : List Event) (c : ℕ) (frame : Frame) (fault : Fault) → IsIdleDeed (deed_after board (deeds board h) (CommandFailed c frame fault))
+failed-idle : (board : Board) (h : List Event) (c : ℕ) (frame : Frame) (fault : Fault) → IsIdleDeed board (deed_after board (deeds board h) (CommandFailed c frame fault))
 failed-idle board h c (Good m) fault = record { no_success = refl; stays = refl; unsent = λ b. refl; uncompleted = λ pending. refl; unfailed = λ pending. refl; unrestarted = refl; unreported = refl }
 failed-idle board h c (Malformed len header) fault = record { no_success = refl; stays = refl; unsent = λ b. refl; uncompleted = λ pending. refl; unfailed = λ pending. refl; unrestarted = refl; unreported = refl }
 

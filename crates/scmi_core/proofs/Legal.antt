@@ -65,7 +65,7 @@ one_more : (board : Board) (h : List Deed) (e : Event) → advances h ≤ length
     → (is_advance e ≡ true → 0 < length (pending_sets board h))
     → advances (h ++ deed_after board h e ∷ []) ≤ length (accepted_sets board (h ++ deed_after board h e ∷ []))
 one_more board h (Command a (Good m)) enough waits =
-    rw (advances-push, accepted_sets-push) (omega (arith, length-append (accepted_sets board h) (option_to_list (option_and_then (acceptance board) (added_success (deed_after board h (Command a (Good m))))))))
+    rw (advances-push, accepted_sets-push) (omega (arith, length-append (accepted_sets board h) (option_to_list (option_and_then (acceptance board) (added_success board (deed_after board h (Command a (Good m))))))))
 one_more board h (Command a (Malformed len header)) enough waits =
     rw (advances-push, accepted_sets-push) (omega (arith, length-append (accepted_sets board h) []))
 one_more board h (Sent a) enough waits =

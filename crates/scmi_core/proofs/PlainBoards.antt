@@ -1,22 +1,27 @@
 -- A board that keeps nothing, denies nothing and shares nothing out gives what it gives if no board says such things.
-use Rattle.std.proofs.Common.{◌≡◌, ◌⊎◌, inl, inr, ℕ, suc, ◌+◌, ◌-◌, ◌<◌, ◌==◌, ◌&&◌, ◌||◌, ◌≤◌, nat_le, nat_lt, Bool, true, false, not, if◌then◌else◌, List, [], ◌∷◌, length, Some, None, refl, ap, ◌∙◌, arith}
+use Rattle.std.proofs.Common.{◌≡◌, ◌⊎◌, inl, inr, ℕ, zero, suc, ◌+◌, ◌-◌, ◌<◌, ◌==◌, ◌&&◌, ◌||◌, ◌≤◌, nat_le, nat_lt, Bool, true, false, not, if◌then◌else◌, List, [], ◌∷◌, length, Some, None, Err, refl, sym, ap, ◌∙◌, arith}
 use Rattle.std.specs.Int.{bit_at}
-use Rattle.std.specs.List.{filter}
-use Rattle.std.proofs.lemmas.Bool.Decides.{leb_tells, nat_tests}
+use Rattle.std.specs.List.{filter, list_any}
+use Rattle.std.proofs.lemmas.Bool.Decides.{Decides-eqb, Decides-like, leb_tells, nat_tests, same_from_decides}
 use Rattle.std.proofs.lemmas.List.Filters.{length-filter_both}
 use Rattle.std.proofs.lemmas.Nat.Bits.{bit_at-zero}
+use Rattle.scmi_codec.specs.Command.{command_of}
+use Rattle.scmi_codec.specs.declared.message.Message.{Message}
+use Rattle.scmi_codec.specs.declared.status.Status.TheVariants.{NotSupported}
 use Rattle.scmi_codec.specs.Reply.{bit_0, reply_unless}
-use Rattle.scmi_plan.specs.Board.{Board, clock_at, holds, nothing_denied}
+use Rattle.scmi_plan.specs.Board.{Board, clock_at, holds, nothing_denied, own_protocols}
 use Rattle.scmi_plan.specs.declared.resource.Resource.TheVariants as resource
 use Rattle.scmi_plan.specs.declared.scope.Scope.{Scope}
 use Rattle.scmi_plan.specs.declared.scope.Scope.TheVariants as scope
 use Rattle.scmi_base.proofs.Masks.{no_bits}
+use Rattle.scmi_base.specs.BaseReply.{base_reply, protocols_reply}
 use Rattle.scmi_base.specs.Permission.{is_allowed}
 use Rattle.scmi_power.specs.PowerReply.{PowerView, may_set, power_reply, set_reply, state_off}
 use Rattle.scmi_clock.specs.ClockReply.{ClockView, clock_reply, config_checks, rate_if, rounded_rate}
 use Rattle.scmi_core.specs.Deed.{fold_with_prefix}
 use Rattle.scmi_core.specs.Pending.{sets_by}
-use Rattle.scmi_core.specs.PlainBoards.{AllowsAll, ConfiguresByPermission, FindsClocks, FindsDomains, ResetsToAll, Rounds, SetsByPermission, SharesAll}
+use Rattle.scmi_core.specs.PlainBoards.{AllowsAll, ConfiguresByPermission, FindsClocks, FindsDomains, ListsOwn, ReadsAll, ResetsToAll, Rounds, SetsByPermission, SharesAll}
+use Rattle.scmi_core.specs.ReadCommand.{lacks_protocol}
 use Rattle.scmi_core.specs.declared.pending_set.PendingSet.{PendingSet}
 
 -- where nothing is denied each agent is allowed everything
@@ -89,3 +94,32 @@ shares waiting a sets = by (leb_tells (suc (length sets)) 8) where
       let yes : nat_lt (length (sets_by a sets)) 8 ≡ true = grind (arith, nat_tests) in
       rw (few.0, yes) refl
   by (inr many) = rw many.0 refl
+
+same-either_way : (a b : ℕ) → (a == b) ≡ (b == a)
+same-either_way a b =
+    same_from_decides (a == b) (b == a) (Decides-eqb a b) (Decides-like (b == a) sym sym (Decides-eqb b a))
+
+-- what is listed is not lacking
+none_lacks : (a b c : Bool) → (a && (b || c) && not (b || (c || false))) ≡ false
+none_lacks false b c = refl
+none_lacks true true c = refl
+none_lacks true false true = refl
+none_lacks true false false = refl
+
+own_serves : (id : ℕ) → list_any (λ one. one == id) own_protocols ≡ (id == 0x11 || (id == 0x14 || false))
+own_serves id = rw (same-either_way 0x11 id, same-either_way 0x14 id) refl
+
+pub reads : (board : Board) (m : Message) → ReadsAll board m
+reads board m = λ own. ap (λ (missing : Bool). if missing then Err NotSupported else command_of m) (lacks own) where
+  wanted : Bool → Bool
+  wanted listed = m.header.kind == 0 && (m.header.protocol == 0x11 || m.header.protocol == 0x14) && not listed
+
+  lacks : board.protocols ≡ own_protocols → lacks_protocol board m.header ≡ false
+  lacks own =
+      ap (λ (ids : List ℕ). wanted (list_any (λ (one : ℕ). one == m.header.protocol) ids)) own
+      ∙ ap wanted (own_serves m.header.protocol)
+      ∙ none_lacks (m.header.kind == 0) (m.header.protocol == 0x11) (m.header.protocol == 0x14)
+
+pub lists : (board : Board) (caller skip : ℕ) → ListsOwn board caller skip
+unfolding base_reply
+lists board caller skip = λ own. ap (λ (ids : List ℕ). protocols_reply ids skip) own

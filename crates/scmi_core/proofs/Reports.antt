@@ -47,7 +47,7 @@ Agrees-reported board t new h effect agrees law reportable it =
           ∙ sym (ap (has_permission board x d scope) more ∙ has_permission-push board x d scope ds deed);
       subscriptions = λ x d lo hi small.
           ap (λ l. bit_at (get_or l d 0) (x - 1) == 1) it.subscribers ∙ agrees.subscriptions x d lo hi small
-          ∙ sym (ap (is_subscriber x d) more ∙ is_subscriber-push x d ds deed);
+          ∙ sym (ap (is_subscriber board x d) more ∙ is_subscriber-push board x d ds deed);
       values = λ x within.
           it.values x within
           ∙ ap (unwrap_or (value_in x (change_reported effect))) (agrees.values x within)
@@ -95,7 +95,7 @@ taken-over board h effect legal =
           ∙ ap (λ same. unwrap_or (if same then Some change.value else None) (value board x ds)) other;
       pending = ap (pending_sets board) more ∙ pend;
       permissions = λ a d scope. ap (has_permission board a d scope) more ∙ has_permission-push board a d scope ds deed;
-      requests = λ a d. ap (is_subscriber a d) more ∙ is_subscriber-push a d ds deed;
+      requests = λ a d. ap (is_subscriber board a d) more ∙ is_subscriber-push board a d ds deed;
       made = λ a.
           ap (messages_made board a) more ∙ messages_made-push board a ds deed
           ∙ ap (λ left. messages_made board a ds ++ made_in a (situation_after board a ds) left None (Some change)) pend;

@@ -120,21 +120,21 @@ endings-push board h deed = fold_with_prefix-push (λ before so_far x. so_far ++
 
 ended_sets-push : (board : Board) (h : List Deed) (deed : Deed) (o : Option PendingSet) → advances h ≤ length (accepted_sets board h)
     → (is_advance deed.event ≡ false → o ≡ None)
-    → (is_advance deed.event ≡ true → (o ≡ slice_get (pending_sets board h) 0) × (option_and_then (acceptance board) (added_success deed) ≡ None) × (restarted_by deed.event ≡ None))
+    → (is_advance deed.event ≡ true → (o ≡ slice_get (pending_sets board h) 0) × (option_and_then (acceptance board) (added_success board deed) ≡ None) × (restarted_by deed.event ≡ None))
     → (b : Bool) → is_advance deed.event ≡ b
     → ended_sets board (h ++ deed ∷ []) ≡ ended_sets board h ++ option_to_list o
 ended_sets-push board h deed o enough stays goes false is =
     let zero_more : advances h + 0 ≡ advances h = omega arith in
     ap (λ n. take n (accepted_sets board (h ++ deed ∷ []))) (advances-push h deed ∙ ap (λ b. advances h + (if b then 1 else 0)) is ∙ zero_more)
     ∙ ap (take (advances h)) (accepted_sets-push board h deed)
-    ∙ sets_left-ended (advances h) (restarted_by deed.event) (accepted_sets board h) (option_to_list (option_and_then (acceptance board) (added_success deed))) enough
+    ∙ sets_left-ended (advances h) (restarted_by deed.event) (accepted_sets board h) (option_to_list (option_and_then (acceptance board) (added_success board deed))) enough
     ∙ sym (append-nil (ended_sets board h))
     ∙ ap (λ o. ended_sets board h ++ option_to_list o) (sym (stays is))
 ended_sets-push board h deed o enough stays goes true is =
     let one_more : advances h + 1 ≡ suc (advances h) = omega arith in
     ap (λ n. take n (accepted_sets board (h ++ deed ∷ []))) (advances-push h deed ∙ ap (λ b. advances h + (if b then 1 else 0)) is ∙ one_more)
     ∙ ap (take (suc (advances h))) (accepted_sets-push board h deed
-    ∙ ap (λ restarted. sets_left (advances h) restarted (accepted_sets board h) ++ option_to_list (option_and_then (acceptance board) (added_success deed))) (goes is).2
+    ∙ ap (λ restarted. sets_left (advances h) restarted (accepted_sets board h) ++ option_to_list (option_and_then (acceptance board) (added_success board deed))) (goes is).2
     ∙ ap (λ o. accepted_sets board h ++ option_to_list o) (goes is).1 ∙ append-nil (accepted_sets board h))
     ∙ take-one (advances h) (accepted_sets board h)
     ∙ ap (λ o. ended_sets board h ++ option_to_list o) (sym (goes is).0)

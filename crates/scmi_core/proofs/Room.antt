@@ -5,7 +5,7 @@ use Rattle.std.specs.List.{All, flat_map}
 use Rattle.std.proofs.Math.Nat.{min-le_left, mul-div-le}
 use Rattle.std.proofs.lemmas.List.{length-take}
 use Rattle.std.proofs.lemmas.List.Elements.{All-head, All-tail}
-use Rattle.scmi_codec.specs.Name.{name_words}
+use Rattle.scmi_codec.specs.Name.{four_words, name_words}
 use Rattle.scmi_codec.specs.Rate.{rate_words}
 use Rattle.scmi_codec.specs.Reply.{Check, bit_0, other_bits, reply_unless}
 use Rattle.scmi_codec.specs.declared.status.Status.{Status}
@@ -23,7 +23,7 @@ use Rattle.scmi_plan.specs.Plan.{IsValid}
 use Rattle.scmi_plan.specs.declared.agent_channel.AgentChannel.{AgentChannel}
 use Rattle.scmi_plan.specs.Rates.{SupportedRates}
 use Rattle.scmi_plan.specs.Rates as rates
-use Rattle.scmi_base.specs.BaseReply.{agent_name, asked_for, base_reply, packed_words, permit_checks, permit_protocol_checks, protocols, reset_checks}
+use Rattle.scmi_base.specs.BaseReply.{agent_name, asked_for, base_reply, packed_words, permit_checks, permit_protocol_checks, reset_checks}
 use Rattle.scmi_power.specs.PowerReply.{PowerView, attributes, has_kind, has_notifications, is_state, may_set, no_domain, power_reply}
 use Rattle.scmi_clock.specs.ClockReply.{ClockView, clock_reply, config_checks, disables_kept, most_rates, no_clock, past_end, rates_words, set_checks}
 use Rattle.scmi_core.specs.Reply.{reply_words}
@@ -43,11 +43,10 @@ length-rates : (xs : List ℕ) → length (flat_map rate_words xs) ≡ 2 * lengt
 length-rates [] = refl
 length-rates (x ∷ xs) = let rest = length-rates xs in omega (arith, rest)
 
-few_ids : (skip : ℕ) → length (packed_words (drop skip protocols)) ≤ 1
-few_ids zero = omega arith
-few_ids (suc zero) = omega arith
-few_ids (suc (suc zero)) = omega arith
-few_ids (suc (suc (suc skip))) = omega arith
+few_ids : (ids : List ℕ) → length (packed_words ids) ≤ 4
+few_ids ids =
+    let is = length-take ((length ids + 3) / 4) (four_words ids) in
+    omega (arith, is)
 
 module _ (n : ℕ) (eight : 8 ≤ n) where
   one : 1 ≤ n
@@ -71,7 +70,10 @@ module _ (n : ℕ) (eight : 8 ≤ n) where
   base-within board a base.Vendor = omega (arith, eight)
   base-within board a base.SubVendor = omega (arith, eight)
   base-within board a base.Implementation = omega (arith, eight)
-  base-within board a (base.Protocols skip) = let few = few_ids skip in checked _ _ (0 ∷ length (drop skip protocols) ∷ packed_words (drop skip protocols)) (omega (arith, eight, few))
+  base-within board a (base.Protocols skip) =
+      let rest = drop skip board.protocols in
+      let few = few_ids rest in
+      checked _ _ (0 ∷ length rest ∷ packed_words rest) (omega (arith, eight, few))
   base-within board a (base.Agent agent) = checked _ _ (0 ∷ asked_for a agent ∷ name_words (agent_name board (asked_for a agent))) (omega (arith, eight))
   base-within board a (base.Permit agent device flags) = by_checks (permit_checks board a agent device flags) (0 ∷ []) one
   base-within board a (base.PermitProtocol agent device protocol flags) = by_checks (permit_protocol_checks board a agent device protocol flags) (0 ∷ []) one

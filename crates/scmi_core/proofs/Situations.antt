@@ -8,7 +8,6 @@ use Rattle.scmi_codec.specs.declared.frame.Answer.TheVariants.{Reply, ChannelErr
 use Rattle.scmi_codec.specs.declared.message.Message.{Message}
 use Rattle.scmi_codec.specs.declared.frame.Frame.{Frame}
 use Rattle.scmi_codec.specs.declared.frame.Frame.TheVariants.{Good, Malformed}
-use Rattle.scmi_codec.specs.Command.{command_of}
 use Rattle.scmi_codec.specs.declared.command.Command as codec
 use Rattle.scmi_codec.specs.declared.command.Command.TheVariants.{Base, Power, Clock}
 use Rattle.scmi_plan.specs.Board.{Board, channel_of}
@@ -34,6 +33,7 @@ use Rattle.scmi_core.specs.Value.{Change, Thing, State, Rate, Enabled, bit_value
 use Rattle.scmi_core.specs.Pending.{has_room_beside, has_set_of, pending_sets, sets_by}
 use Rattle.scmi_core.specs.Situation.{Situation, has_room, power_view, clock_view}
 use Rattle.scmi_core.specs.Outbox.{messages_left, messages_made, made_in, notice_in, outbox_after, response_for, sent_count, situation_after, state_changed}
+use Rattle.scmi_core.specs.ReadCommand.{command_on}
 use Rattle.scmi_core.specs.Reply.{answer_in, fits_channel, reply_words, words_given}
 use Rattle.scmi_core.specs.Step.{set_clock, set_domain}
 use Rattle.scmi_core.specs.Tables.{IsThing, situation_in}
@@ -115,11 +115,11 @@ module _ (board : Board) (a : ℕ) (s u : Situation) (same : SameSituation board
 
   -- also if it may be longer than the channel
   pub given-same : (m : Message) → words_given board a s m ≡ words_given board a u m
-  given-same m = ap (λ words. if fits_channel board a m then words else []) (reply-same (command_of m))
+  given-same m = ap (λ words. if fits_channel board a m then words else []) (reply-same (command_on board m))
 
   -- one answer to each frame
   pub answer-same : (frame : Frame) → answer_in board a frame s ≡ answer_in board a frame u
-  answer-same (Good m) = ap (λ words. if fits_channel board a m then Reply (record { header = m.header; payload = record { items = words } }) else ChannelError) (reply-same (command_of m))
+  answer-same (Good m) = ap (λ words. if fits_channel board a m then Reply (record { header = m.header; payload = record { items = words } }) else ChannelError) (reply-same (command_on board m))
   answer-same (Malformed len header) = refl
 
   notice-same : (change : Change) → IsThing board change.thing → notice_in s change ≡ notice_in u change

@@ -6,7 +6,6 @@ use Rattle.std.proofs.lemmas.List.Elements.{All-map, All-weaker, All-nil, All-dr
 use Rattle.std.proofs.lemmas.Bool.{eq-eqb}
 use Rattle.std.proofs.lemmas.Bool.Decides.{eqb_tells}
 use Rattle.scmi_codec.specs.Header.{HeaderFields}
-use Rattle.scmi_codec.specs.Command.{command_of}
 use Rattle.scmi_codec.specs.Payload.{begins_with_success}
 use Rattle.scmi_codec.specs.declared.status.Status.{Status}
 use Rattle.scmi_codec.specs.declared.message.Message.{Message}
@@ -33,6 +32,7 @@ use Rattle.scmi_core.specs.Outbox.{failed_response_for, failed_words, message_wi
 use Rattle.scmi_core.specs.History.{answer_to, deeds, outbox}
 use Rattle.scmi_core.specs.Legal.{CanFollow}
 use Rattle.scmi_core.specs.Effect.{effect_after, effect_in, effect_of, effect_read}
+use Rattle.scmi_core.specs.ReadCommand.{command_on}
 use Rattle.scmi_core.specs.Reply.{answer_in, fits_channel, reply_in, reply_words, words_given}
 use Rattle.scmi_core.specs.Tables.{outbox_at, situation_in, value_at, IsThing, IsOfBoard}
 use Rattle.scmi_core.specs.Step.{HasAnswered, HasFailed, HasRestarted, rest_of, HasStepped}
@@ -59,15 +59,15 @@ same-situation board t h a agrees law lo hi =
 
 -- a deed, and the tables that it leaves
 module _ (board : Board) (t new : Tables) (h : List Event) (deed : Deed) (agrees : Agrees board t h) (law : IsValid board)
-    (stepped : HasStepped board t (added_success deed) (completed_set board (deeds board h) deed.event) new)
+    (stepped : HasStepped board t (added_success board deed) (completed_set board (deeds board h) deed.event) new)
     (pend : new.pending ≡ pending_sets board (deeds board h ++ deed ∷ []))
     (unfailed : failed_set board (deeds board h) deed.event ≡ None) (unrestarted : restarted_by deed.event ≡ None) (unreported : reported deed.event ≡ None) where
   messages_made-tied : (a : ℕ) → 1 ≤ a → a ≤ length board.agents
-      → made_in a (situation_in a t) new.pending (completed_set board (deeds board h) deed.event) (change_of board (added_success deed) (completed_set board (deeds board h) deed.event))
+      → made_in a (situation_in a t) new.pending (completed_set board (deeds board h) deed.event) (change_of board (added_success board deed) (completed_set board (deeds board h) deed.event))
       ≡ made_by board a (deeds board h) (messages_made board a (deeds board h)) deed
   messages_made-tied a lo hi =
       let done = completed_set board (deeds board h) deed.event in
-      let change = change_of board (added_success deed) done in
+      let change = change_of board (added_success board deed) done in
       ap (λ left. made_in a (situation_in a t) left done change) pend
       ∙ messages_made-same board a (situation_in a t) (situation_after board a (deeds board h)) (same-situation board t h a agrees law lo hi)
       (pending_sets board (deeds board h ++ deed ∷ [])) done change stepped.known
@@ -80,13 +80,13 @@ module _ (board : Board) (t new : Tables) (h : List Event) (deed : Deed) (agrees
     legal = IsLegal-push board h e agrees.legal follows;
     permissions = λ a d scope lo hi small.
         stepped.permissions a d scope lo small
-        ∙ ap (unwrap_or (option_and_then (λ s. permission_in board a d scope s.command) (added_success deed))) (agrees.permissions a d scope lo hi small)
+        ∙ ap (unwrap_or (option_and_then (λ s. permission_in board a d scope s.command) (added_success board deed))) (agrees.permissions a d scope lo hi small)
         ∙ sym (ap (has_permission board a d scope) more ∙ has_permission-push board a d scope (deeds board h) deed);
     subscriptions = λ a d lo hi small.
         stepped.subscriptions a d lo hi small
-        ∙ ap (unwrap_or (option_and_then (subscription a d) (added_success deed))) (agrees.subscriptions a d lo hi small)
-        ∙ ap (λ restarted. unwrap_or (option_or (subscription_after_reset a restarted) (option_and_then (subscription a d) (added_success deed))) (is_subscriber a d (deeds board h))) (sym unrestarted)
-        ∙ sym (ap (is_subscriber a d) more ∙ is_subscriber-push a d (deeds board h) deed);
+        ∙ ap (unwrap_or (option_and_then (subscription a d) (added_success board deed))) (agrees.subscriptions a d lo hi small)
+        ∙ ap (λ restarted. unwrap_or (option_or (subscription_after_reset a restarted) (option_and_then (subscription a d) (added_success board deed))) (is_subscriber board a d (deeds board h))) (sym unrestarted)
+        ∙ sym (ap (is_subscriber board a d) more ∙ is_subscriber-push board a d (deeds board h) deed);
     values = λ x within.
         stepped.values x within
         ∙ ap (λ said. unwrap_or (option_and_then (value_in x) (option_or said (commanded_by board (deeds board h) deed))) (value_at t x)) (sym unreported)
@@ -96,7 +96,7 @@ module _ (board : Board) (t new : Tables) (h : List Event) (deed : Deed) (agrees
     known = stepped.known_sets agrees.known;
     outboxes = λ a lo hi.
         stepped.outboxes a lo hi
-        ∙ ap (λ b. b ++ made_in a (situation_in a t) new.pending (completed_set board (deeds board h) deed.event) (change_of board (added_success deed) (completed_set board (deeds board h) deed.event))) (agrees.outboxes a lo hi)
+        ∙ ap (λ b. b ++ made_in a (situation_in a t) new.pending (completed_set board (deeds board h) deed.event) (change_of board (added_success board deed) (completed_set board (deeds board h) deed.event))) (agrees.outboxes a lo hi)
         ∙ ap (λ b. outbox board a h ++ b) (messages_made-tied a lo hi)
         ∙ ap (λ restarted. (if option_map_or (λ b. a == b) restarted false then [] else outbox board a h) ++ made_by board a (deeds board h) (messages_made board a (deeds board h)) deed) (sym unrestarted)
         ∙ sym (ap (outbox_after board a) more ∙ outbox-push board a (deeds board h) deed (unsent a) (sent_le-made board h agrees.legal a));
@@ -104,14 +104,14 @@ module _ (board : Board) (t new : Tables) (h : List Event) (deed : Deed) (agrees
 
 -- a command
 pub Agrees-command : (board : Board) (t new : Tables) (h : List Event) (a : ℕ) (m : Message) (reply : List ℕ) → Agrees board t h → IsValid board → 1 ≤ a → a ≤ length board.agents
-    → reply ≡ words_given board a (situation_in a t) m → HasStepped board t (success_of a m.header (command_of m) reply) None new
+    → reply ≡ words_given board a (situation_in a t) m → HasStepped board t (success_of a m.header (command_on board m) reply) None new
     → Agrees board new (h ++ Command a (Good m) ∷ [])
 Agrees-command board t new h a m reply agrees law lo hi is stepped =
     let words : reply ≡ words_given board a (situation_after board a (deeds board h)) m = is ∙ given-same board a (situation_in a t) (situation_after board a (deeds board h)) (same-situation board t h a agrees law lo hi) m in
     let deed : Deed = record { event = Command a (Good m); reply = words_given board a (situation_after board a (deeds board h)) m } in
-    let stepped' : HasStepped board t (success_of a m.header (command_of m) (words_given board a (situation_after board a (deeds board h)) m)) None new = subst (λ r. HasStepped board t (success_of a m.header (command_of m) r) None new) words stepped in
+    let stepped' : HasStepped board t (success_of a m.header (command_on board m) (words_given board a (situation_after board a (deeds board h)) m)) None new = subst (λ r. HasStepped board t (success_of a m.header (command_on board m) r) None new) words stepped in
     Agrees-deed board t new h deed agrees law stepped'
-    (stepped'.pending ∙ ap (λ p. p ++ option_to_list (option_and_then (acceptance board) (added_success deed))) agrees.pending ∙ sym (pending_sets-push board (deeds board h) deed refl (advances_le-accepted board h agrees.legal)))
+    (stepped'.pending ∙ ap (λ p. p ++ option_to_list (option_and_then (acceptance board) (added_success board deed))) agrees.pending ∙ sym (pending_sets-push board (deeds board h) deed refl (advances_le-accepted board h agrees.legal)))
     refl refl refl (Command a (Good m)) (deeds-push board h (Command a (Good m))) (lo, hi) (λ x. refl)
 
 -- an event that is neither a success nor a completion
@@ -136,21 +136,21 @@ unread-stepped board t a header s reply = by (begins_with_success reply) where
 -- a message that is longer than its channel leaves everything as it was
 pub long-stepped : (board : Board) (t : Tables) (a : ℕ) (m : Message) → fits_channel board a m ≡ false → HasAnswered board a (Good m) t t
 long-stepped board t a m long =
-    subst (λ b. HasStepped board t (success_of a m.header (command_of m) (if b then reply_words board a (situation_in a t) (command_of m) else [])) None t) (sym long) (nothing-stepped board t)
+    subst (λ b. HasStepped board t (success_of a m.header (command_on board m) (if b then reply_words board a (situation_in a t) (command_on board m) else [])) None t) (sym long) (nothing-stepped board t)
 
 pub long-answer : (board : Board) (t : Tables) (a : ℕ) (m : Message) → fits_channel board a m ≡ false → ChannelError ≡ answer_in board a (Good m) (situation_in a t)
 long-answer board t a m long = sym (ap (λ b. if b then Reply (reply_in board a m (situation_in a t)) else ChannelError) long)
 
 -- another one leaves what its reply says
 pub short-stepped : (board : Board) (t new : Tables) (a : ℕ) (m : Message) (reply : List ℕ) → fits_channel board a m ≡ true
-    → reply ≡ reply_words board a (situation_in a t) (command_of m) → HasStepped board t (success_of a m.header (command_of m) reply) None new
+    → reply ≡ reply_words board a (situation_in a t) (command_on board m) → HasStepped board t (success_of a m.header (command_on board m) reply) None new
     → HasAnswered board a (Good m) t new
 short-stepped board t new a m reply short is stepped =
-    subst (λ words. HasStepped board t (success_of a m.header (command_of m) words) None new)
-    (is ∙ sym (ap (λ b. if b then reply_words board a (situation_in a t) (command_of m) else []) short)) stepped
+    subst (λ words. HasStepped board t (success_of a m.header (command_on board m) words) None new)
+    (is ∙ sym (ap (λ b. if b then reply_words board a (situation_in a t) (command_on board m) else []) short)) stepped
 
 pub short-answer : (board : Board) (t : Tables) (a : ℕ) (m : Message) (reply : List ℕ) → fits_channel board a m ≡ true
-    → reply ≡ reply_words board a (situation_in a t) (command_of m) → Reply (message_with m.header reply) ≡ answer_in board a (Good m) (situation_in a t)
+    → reply ≡ reply_words board a (situation_in a t) (command_on board m) → Reply (message_with m.header reply) ≡ answer_in board a (Good m) (situation_in a t)
 short-answer board t a m reply short is =
     ap (λ words. Reply (message_with m.header words)) is
     ∙ sym (ap (λ b. if b then Reply (reply_in board a m (situation_in a t)) else ChannelError) short)
@@ -199,10 +199,10 @@ pub effect-table : (board : Board) (t : Tables) (h : List Event) (a : ℕ) (fram
 effect-table board t h a (Good m) agrees law lo hi = by (fits_channel board a m) where
   by : (short : Bool)
       → (if short then effect_read board a m (situation_in a t) else None)
-      ≡ option_map effect_of (change_of board (success_of a m.header (command_of m) (if short then reply_words board a (situation_after board a (deeds board h)) (command_of m) else [])) None)
+      ≡ option_map effect_of (change_of board (success_of a m.header (command_on board m) (if short then reply_words board a (situation_after board a (deeds board h)) (command_on board m) else [])) None)
   by true =
-      ap (λ words. option_map effect_of (change_of board (success_of a m.header (command_of m) words) None))
-      (reply-same board a (situation_in a t) (situation_after board a (deeds board h)) (same-situation board t h a agrees law lo hi) (command_of m))
+      ap (λ words. option_map effect_of (change_of board (success_of a m.header (command_on board m) words) None))
+      (reply-same board a (situation_in a t) (situation_after board a (deeds board h)) (same-situation board t h a agrees law lo hi) (command_on board m))
   by false = refl
 effect-table board t h a (Malformed len header) agrees law lo hi = refl
 
@@ -226,7 +226,7 @@ Agrees-advance_failed board t new h fault agrees law waiting failed =
     record {
       legal = IsLegal-push board h (AdvanceFailed fault) agrees.legal follows;
       permissions = λ x d scope lo hi small. ap (λ b. is_allowed b x d scope) failed.base ∙ agrees.permissions x d scope lo hi small ∙ sym (ap (has_permission board x d scope) more ∙ has_permission-push board x d scope (deeds board h) deed);
-      subscriptions = λ x d lo hi small. ap (λ p. is_subscribed p x d) failed.power ∙ agrees.subscriptions x d lo hi small ∙ sym (ap (is_subscriber x d) more ∙ is_subscriber-push x d (deeds board h) deed);
+      subscriptions = λ x d lo hi small. ap (λ p. is_subscribed p x d) failed.power ∙ agrees.subscriptions x d lo hi small ∙ sym (ap (is_subscriber board x d) more ∙ is_subscriber-push board x d (deeds board h) deed);
       values = λ x within. same_value x ∙ agrees.values x within ∙ sym (ap (value board x) more ∙ value-push board x (deeds board h) deed);
       pending = failed.pending ∙ ap (drop 1) agrees.pending ∙ sym (ap (pending_sets board) more ∙ pending_sets-failed board (deeds board h) fault);
       known = subst (All (IsOfBoard board)) (sym failed.pending) (All-drop (IsOfBoard board) 1 t.pending agrees.known);
@@ -257,7 +257,7 @@ Agrees-sent board t new h a agrees law lo hi waiting bases powers clocks pends f
     record {
       legal = IsLegal-push board h (Sent a) agrees.legal (lo, hi, follows);
       permissions = λ x d scope lo' hi' small. ap (λ b. is_allowed b x d scope) bases ∙ agrees.permissions x d scope lo' hi' small ∙ sym (ap (has_permission board x d scope) more ∙ has_permission-push board x d scope (deeds board h) deed);
-      subscriptions = λ x d lo' hi' small. ap (λ p. is_subscribed p x d) powers ∙ agrees.subscriptions x d lo' hi' small ∙ sym (ap (is_subscriber x d) more ∙ is_subscriber-push x d (deeds board h) deed);
+      subscriptions = λ x d lo' hi' small. ap (λ p. is_subscribed p x d) powers ∙ agrees.subscriptions x d lo' hi' small ∙ sym (ap (is_subscriber board x d) more ∙ is_subscriber-push board x d (deeds board h) deed);
       values = λ x within. same_value x ∙ agrees.values x within ∙ sym (ap (value board x) more ∙ value-push board x (deeds board h) deed);
       pending = pends ∙ agrees.pending ∙ sym (append-nil (pending_sets board (deeds board h)))
           ∙ sym (ap (pending_sets board) more ∙ pending_sets-push board (deeds board h) deed refl (advances_le-accepted board h agrees.legal));
@@ -305,8 +305,8 @@ Agrees-restarted board t new h a agrees lo hi it =
       subscriptions = λ x d lo' hi' small.
           it.subscriptions x d lo' hi' small
           ∙ ap (unwrap_or (subscription_after_reset x (Some a))) (agrees.subscriptions x d lo' hi' small)
-          ∙ ap (λ said. unwrap_or said (is_subscriber x d (deeds board h))) (sym (or_none (subscription_after_reset x (Some a))))
-          ∙ sym (ap (is_subscriber x d) more ∙ is_subscriber-push x d (deeds board h) deed);
+          ∙ ap (λ said. unwrap_or said (is_subscriber board x d (deeds board h))) (sym (or_none (subscription_after_reset x (Some a))))
+          ∙ sym (ap (is_subscriber board x d) more ∙ is_subscriber-push board x d (deeds board h) deed);
       values = λ x within. same_value x ∙ agrees.values x within ∙ sym (ap (value board x) more ∙ value-push board x (deeds board h) deed);
       pending = it.pending ∙ ap (map (unwanted a)) agrees.pending ∙ sym (append-nil (map (unwanted a) (pending_sets board (deeds board h))))
           ∙ sym (ap (pending_sets board) more ∙ pending_sets-push board (deeds board h) deed refl (advances_le-accepted board h agrees.legal));

@@ -4,7 +4,6 @@ use Rattle.std.specs.List.{All}
 use Rattle.std.specs.Option.{option_to_list}
 use Rattle.std.proofs.lemmas.Bool.{eqb-true}
 use Rattle.std.proofs.lemmas.List.Elements.{All-append, All-cons, All-nil}
-use Rattle.scmi_codec.specs.Command.{command_of}
 use Rattle.scmi_codec.specs.Header.{HeaderFields}
 use Rattle.scmi_codec.specs.Payload.{begins_with_success}
 use Rattle.scmi_codec.specs.Reply.{other_bits, reply_unless}
@@ -23,6 +22,7 @@ use Rattle.scmi_core.specs.Deed.{fold_with_prefix, success_of, success_with, suc
 use Rattle.scmi_core.specs.History.{deed_after, deeds}
 use Rattle.scmi_core.specs.Laws.{HasTrustedPermissions, IsTrusted}
 use Rattle.scmi_core.specs.Outbox.{situation_after}
+use Rattle.scmi_core.specs.ReadCommand.{command_on}
 use Rattle.scmi_core.specs.Reply.{fits_channel, reply_words}
 use Rattle.scmi_core.specs.Situation.{Situation}
 use Rattle.scmi_core.proofs.Deeds.{added_success, successes-push}
@@ -65,7 +65,7 @@ base-trusted board a header base.Implementation ok = λ x d scope some. absurd (
 base-trusted board a header (base.Protocols skip) ok = λ x d scope some. absurd (some refl)
 base-trusted board a header (base.Agent agent) ok = λ x d scope some. absurd (some refl)
 base-trusted board a header (base.Permit agent device flags) ok = λ x d scope some. eqb-true a board.trusted (permit-trusted (no_agent board agent) (no_device board device) (other_bits flags) (a == board.trusted) ok)
-base-trusted board a header (base.PermitProtocol agent device protocol flags) ok = λ x d scope some. eqb-true a board.trusted (protocol-trusted (no_agent board agent) (no_device board device) (no_protocol protocol) (nat_lt 0xFF protocol) (other_bits flags) (a == board.trusted) ok)
+base-trusted board a header (base.PermitProtocol agent device protocol flags) ok = λ x d scope some. eqb-true a board.trusted (protocol-trusted (no_agent board agent) (no_device board device) (no_protocol board protocol) (nat_lt 0xFF protocol) (other_bits flags) (a == board.trusted) ok)
 base-trusted board a header (base.ResetAgent agent flags) ok = λ x d scope some. eqb-true a board.trusted (reset-trusted (no_agent board agent) (other_bits flags) (a == board.trusted) ok)
 
 success-trusted : (board : Board) (a : ℕ) (header : HeaderFields) (s : Situation) (r : Result codec.Command Status)
@@ -88,11 +88,11 @@ success-trusted board a header s (Ok (Base c)) = by (begins_with_success (base_r
   by true ok = All-cons (IsTrusted board) (record { caller = a; header = header; command = Base c }) [] (base-trusted board a header c ok) (All-nil (IsTrusted board))
   by false ok = All-nil (IsTrusted board)
 
-deed-trusted : (board : Board) (h : List Event) (e : Event) → All (IsTrusted board) (option_to_list (added_success (deed_after board (deeds board h) e)))
+deed-trusted : (board : Board) (h : List Event) (e : Event) → All (IsTrusted board) (option_to_list (added_success board (deed_after board (deeds board h) e)))
 deed-trusted board h (Command a (Good m)) = by (fits_channel board a m) where
   by : (short : Bool)
-      → All (IsTrusted board) (option_to_list (success_of a m.header (command_of m) (if short then reply_words board a (situation_after board a (deeds board h)) (command_of m) else [])))
-  by true = success-trusted board a m.header (situation_after board a (deeds board h)) (command_of m)
+      → All (IsTrusted board) (option_to_list (success_of a m.header (command_on board m) (if short then reply_words board a (situation_after board a (deeds board h)) (command_on board m) else [])))
+  by true = success-trusted board a m.header (situation_after board a (deeds board h)) (command_on board m)
   by false = All-nil (IsTrusted board)
 deed-trusted board h (Command a (Malformed len header)) = All-nil (IsTrusted board)
 deed-trusted board h (CommandFailed a (Good m) fault) = All-nil (IsTrusted board)
@@ -108,8 +108,8 @@ unfolding deeds fold_with_prefix
 trusted_of board empty = All-nil (IsTrusted board)
 trusted_of board (grow {xs} g e) =
     let deed = deed_after board (deeds board xs) e in
-    subst (All (IsTrusted board)) (sym (ap successes (deeds-push board xs e) ∙ successes-push (deeds board xs) deed))
-    (All-append (IsTrusted board) (successes (deeds board xs)) (option_to_list (added_success deed)) (trusted_of board g) (deed-trusted board xs e))
+    subst (All (IsTrusted board)) (sym (ap (successes board) (deeds-push board xs e) ∙ successes-push board (deeds board xs) deed))
+    (All-append (IsTrusted board) (successes board (deeds board xs)) (option_to_list (added_success board deed)) (trusted_of board g) (deed-trusted board xs e))
 
 pub permissions : (board : Board) (h : List Event) → HasTrustedPermissions board h
 permissions board h = trusted_of board (grown h)

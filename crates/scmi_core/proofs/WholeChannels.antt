@@ -1,11 +1,11 @@
 -- On a whole channel, of 64 words and both ways, replies and answers are those of a platform that knows no other.
 use Rattle.std.proofs.Common.{◌≡◌, ℕ, ◌≤◌, nat_le, Bool, true, List, [], length, refl, ap, ◌∙◌, if◌then◌else◌}
 use Rattle.std.proofs.lemmas.Bool.{le-leb}
-use Rattle.scmi_codec.specs.Command.{command_of}
 use Rattle.scmi_codec.specs.declared.frame.Answer.TheVariants.{Reply, ChannelError}
 use Rattle.scmi_codec.specs.declared.message.Message.{Message}
 use Rattle.scmi_plan.specs.Board.{Board, channel_of, whole_channel}
 use Rattle.scmi_plan.specs.declared.domain.Domain.{Domain}
+use Rattle.scmi_core.specs.ReadCommand.{command_on}
 use Rattle.scmi_core.specs.Reply.{fits_channel, reply_in, reply_words}
 use Rattle.scmi_core.specs.Situation.{Situation}
 use Rattle.scmi_core.specs.WholeChannels.{AnnouncesSets, AnswersEach, ChecksRateSet, ChecksRequest, ChecksStateSet, DescribesRates, ShowsAttributes}
@@ -34,4 +34,4 @@ fits board a m whole few = ap (λ channel. nat_le (length m.payload.items) chann
 pub answers : (board : Board) (a : ℕ) (m : Message) (s : Situation) → AnswersEach board a m s
 answers board a m s = λ whole few.
     let fit = fits board a m whole few in
-    (ap (λ b. if b then reply_words board a s (command_of m) else []) fit, ap (λ b. if b then Reply (reply_in board a m s) else ChannelError) fit)
+    (ap (λ b. if b then reply_words board a s (command_on board m) else []) fit, ap (λ b. if b then Reply (reply_in board a m s) else ChannelError) fit)

@@ -1,6 +1,6 @@
 -- A board of two agents, three domains, three clocks and two devices, for worked examples.
 use Rattle.std.specs.Prelude.{true, false, [], ◌∷◌, codes, replicate}
-use Rattle.scmi_plan.specs.Board.{Board, nothing_denied, nothing_held, whole_channel}
+use Rattle.scmi_plan.specs.Board.{Board, nothing_denied, nothing_held, own_protocols, whole_channel}
 use Rattle.scmi_plan.specs.declared.limits.TheConstants.{AGENTS}
 use Rattle.scmi_plan.specs.Rates as rates
 
@@ -27,6 +27,7 @@ board_b =
       denied = nothing_denied;
       absent = nothing_held;
       free = 0;
+      protocols = own_protocols;
     }
 
 -- the same board with two devices that both hold the first domain

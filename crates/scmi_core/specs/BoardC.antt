@@ -1,6 +1,6 @@
 -- Boards of one agent and its clocks, for worked examples.
 use Rattle.std.specs.Prelude.{true, [], ◌∷◌, codes, replicate}
-use Rattle.scmi_plan.specs.Board.{Board, nothing_denied, nothing_held, whole_channel}
+use Rattle.scmi_plan.specs.Board.{Board, nothing_denied, nothing_held, own_protocols, whole_channel}
 use Rattle.scmi_plan.specs.declared.limits.TheConstants.{AGENTS}
 use Rattle.scmi_plan.specs.Rates as rates
 
@@ -21,6 +21,7 @@ board_c =
       denied = nothing_denied;
       absent = nothing_held;
       free = 0;
+      protocols = own_protocols;
     }
 
 -- the same board with one clock, of the rates 1 to 64

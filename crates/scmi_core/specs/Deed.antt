@@ -2,11 +2,12 @@
 use Rattle.std.specs.Prelude.{ℕ, if◌then◌else◌, List, [], ◌∷◌, ◌++◌, Option, Some, None, Result, Ok, Err}
 use Rattle.std.specs.List.{filter_map}
 use Rattle.scmi_codec.specs.Header.{HeaderFields}
-use Rattle.scmi_codec.specs.Command.{command_of}
 use Rattle.scmi_codec.specs.Payload.{begins_with_success}
 use Rattle.scmi_codec.specs.declared.status.Status.{Status}
 use Rattle.scmi_codec.specs.declared.frame.Frame.TheVariants.{Good}
 use Rattle.scmi_codec.specs.declared.command.Command as codec
+use Rattle.scmi_plan.specs.Board.{Board}
+use Rattle.scmi_core.specs.ReadCommand.{command_on}
 use Rattle.scmi_core.specs.declared.event.Event.{Event}
 use Rattle.scmi_core.specs.declared.event.Event.TheVariants.{Command, Restarted}
 
@@ -46,9 +47,9 @@ abbrev pub success_of : ℕ → HeaderFields → Result codec.Command Status →
 success_of a header r reply = if begins_with_success reply then success_with a header r else None
 
 -- the success that an event with this reply is
-abbrev pub success_at : Event → List ℕ → Option Success
-success_at (Command a (Good m)) reply = success_of a m.header (command_of m) reply
-success_at _ reply = None
+abbrev pub success_at : Board → Event → List ℕ → Option Success
+success_at board (Command a (Good m)) reply = success_of a m.header (command_on board m) reply
+success_at board _ reply = None
 
 -- the agent that an event restarts, without the platform
 abbrev pub restarted_by : Event → Option ℕ
@@ -56,5 +57,5 @@ restarted_by (Restarted a) = Some a
 restarted_by _ = None
 
 -- the successful commands, in order
-abbrev pub successes : List Deed → List Success
-successes h = filter_map (λ deed. success_at deed.event deed.reply) h
+abbrev pub successes : Board → List Deed → List Success
+successes board h = filter_map (λ deed. success_at board deed.event deed.reply) h

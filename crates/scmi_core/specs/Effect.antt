@@ -1,7 +1,6 @@
 -- What a history changes of the hardware.
 use Rattle.std.specs.Prelude.{ℕ, ◌==◌, ◌&&◌, ◌||◌, Bool, false, if◌then◌else◌, List, Option, None, option_map, map}
 use Rattle.std.specs.Option.{option_or}
-use Rattle.scmi_codec.specs.Command.{command_of}
 use Rattle.scmi_codec.specs.declared.header.Header.{Header}
 use Rattle.scmi_codec.specs.declared.message.Message.{Message}
 use Rattle.scmi_codec.specs.declared.frame.Frame.{Frame}
@@ -14,6 +13,7 @@ use Rattle.scmi_core.specs.declared.pending_set.Setting.{Setting}
 use Rattle.scmi_core.specs.declared.pending_set.Setting.TheVariants as setting
 use Rattle.scmi_core.specs.Deed.{success_of}
 use Rattle.scmi_core.specs.History.{deeds, deed_after}
+use Rattle.scmi_core.specs.ReadCommand.{command_on}
 use Rattle.scmi_core.specs.Reply.{fits_channel, reply_words}
 use Rattle.scmi_core.specs.Situation.{Situation}
 use Rattle.scmi_core.specs.Value.{Change, Enabled, Rate, State, Thing, change_by, change_of, changes, commanded_changes}
@@ -62,7 +62,7 @@ commanded_effects board h = map effect_of (commanded_changes board (deeds board 
 
 -- the effect of a message of agent a that is read, by the agent's situation
 abbrev pub effect_read : Board → ℕ → Message → Situation → Option Effect
-effect_read board a m s = option_map effect_of (change_of board (success_of a m.header (command_of m) (reply_words board a s (command_of m))) None)
+effect_read board a m s = option_map effect_of (change_of board (success_of a m.header (command_on board m) (reply_words board a s (command_on board m))) None)
 
 -- the effect of a frame of agent a, by the agent's situation; one that is longer than its channel has none
 abbrev pub effect_in : Board → ℕ → Frame → Situation → Option Effect

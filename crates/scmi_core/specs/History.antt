@@ -79,4 +79,4 @@ is_pending_after board r h = is_pending board r (deeds board h)
 
 -- whether agent a is notified of domain d's changes after a history
 abbrev pub is_subscriber_after : Board → (a d : ℕ) → List Event → Bool
-is_subscriber_after board a d h = is_subscriber a d (deeds board h)
+is_subscriber_after board a d h = is_subscriber board a d (deeds board h)

@@ -86,7 +86,7 @@ pub record HasCause (board : Board) (h : List Event) (change : Change) : Type 0 
   pub after : List Event
   pub place : h ≡ before ++ Command change.causer (Good message) ∷ after
   pub agent : IsAgent (length board.agents) change.causer
-  pub asked : option_and_then (change_asked board) (success_at (Command change.causer (Good message)) (deed_after board (deeds board before) (Command change.causer (Good message))).reply) ≡ Some change
+  pub asked : option_and_then (change_asked board) (success_at board (Command change.causer (Good message)) (deed_after board (deeds board before) (Command change.causer (Good message))).reply) ≡ Some change
   pub allowed : may_after board before change.causer change.thing ≡ true
   pub kept : IsKeptOn board change
 
@@ -113,4 +113,4 @@ IsTrusted board s = (a d : ℕ) (scope : Scope) → permission_in board a d scop
 
 -- what agents may do is said by the trusted agent alone
 abbrev pub HasTrustedPermissions : Board → List Event → Type 0
-HasTrustedPermissions board h = All (IsTrusted board) (successes (deeds board h))
+HasTrustedPermissions board h = All (IsTrusted board) (successes board (deeds board h))

@@ -1,3 +1,4 @@
+pub mod ReadCommand
 pub mod Deed
 pub mod Permissions
 pub mod Subscriptions

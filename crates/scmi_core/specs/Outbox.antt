@@ -98,7 +98,7 @@ situation_with board a so_far h =
     record {
       value = λ x. value board x h;
       allowed = λ device scope. has_permission board a device scope h;
-      subscribed = λ d. is_subscriber a d h;
+      subscribed = λ d. is_subscriber board a d h;
       pending = pending_sets board h;
       outbox = drop (sent_count a h) so_far;
     }

@@ -58,7 +58,7 @@ sets_left ended (Some a) sets = take ended sets ++ map (unwanted a) (drop ended 
 abbrev pub accepted_sets : Board → List Deed → List PendingSet
 accepted_sets board h =
     fold_with_prefix
-    (λ before so_far deed. sets_left (advances before) (restarted_by deed.event) so_far ++ option_to_list (option_and_then (acceptance board) (success_at deed.event deed.reply)))
+    (λ before so_far deed. sets_left (advances before) (restarted_by deed.event) so_far ++ option_to_list (option_and_then (acceptance board) (success_at board deed.event deed.reply)))
     [] [] h
 
 -- sets end in order of acceptance, one per advance; the others are pending (own)

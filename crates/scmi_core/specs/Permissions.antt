@@ -16,4 +16,4 @@ permission_in board a d scope _ = None
 -- the board says where agents are allowed from the start, until a permission or a reset says otherwise; the latest counts (own)
 abbrev pub has_permission : Board → ℕ → ℕ → Scope → List Deed → Bool
 has_permission board a d scope h =
-    latest (is_allowed board.denied a d scope) (filter_map (λ s. permission_in board a d scope s.command) (successes h))
+    latest (is_allowed board.denied a d scope) (filter_map (λ s. permission_in board a d scope s.command) (successes board h))

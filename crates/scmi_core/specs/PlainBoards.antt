@@ -1,15 +1,20 @@
--- What the definitions give of a board that keeps nothing, denies nothing, shares nothing out, has all that it lists and frees no clock: what they give if no board says such things.
+-- What the definitions give of a board that keeps nothing, denies nothing, shares nothing out, has all that it lists,
+-- frees no clock and says nothing of its protocols: what they give if no board says such things.
 use Rattle.std.specs.Prelude.{◌≡◌, ◌==◌, ◌&&◌, ℕ, nat_le, nat_lt, true, if◌then◌else◌, List, [], ◌∷◌, length, Some, None}
+use Rattle.scmi_codec.specs.Command.{command_of}
+use Rattle.scmi_codec.specs.declared.message.Message.{Message}
 use Rattle.scmi_codec.specs.Reply.{bit_0, reply_unless}
-use Rattle.scmi_codec.specs.declared.base_command.BaseCommand.TheVariants.{ResetAgent}
+use Rattle.scmi_codec.specs.declared.base_command.BaseCommand.TheVariants.{Protocols, ResetAgent}
 use Rattle.scmi_codec.specs.declared.power_command.PowerCommand.TheVariants as power
 use Rattle.scmi_codec.specs.declared.clock_command.ClockCommand.TheVariants as clock
-use Rattle.scmi_plan.specs.Board.{Board, clock_at, nothing_denied, nothing_held}
+use Rattle.scmi_plan.specs.Board.{Board, clock_at, nothing_denied, nothing_held, own_protocols}
 use Rattle.scmi_plan.specs.declared.limits.TheConstants.{PENDING_SETS}
 use Rattle.scmi_plan.specs.declared.scope.Scope.{Scope}
+use Rattle.scmi_base.specs.BaseReply.{base_reply, protocols_reply}
 use Rattle.scmi_base.specs.Permission.{permission}
 use Rattle.scmi_power.specs.PowerReply.{PowerView, no_domain, power_reply, set_reply}
 use Rattle.scmi_clock.specs.ClockReply.{ClockView, clock_reply, config_checks, no_clock, rate_for, rounded_rate}
+use Rattle.scmi_core.specs.ReadCommand.{command_on}
 use Rattle.scmi_core.specs.Pending.{has_room_beside, load_beside}
 use Rattle.scmi_core.specs.Permissions.{has_permission}
 use Rattle.scmi_core.specs.declared.outboxes.TheConstants.{OUTBOX_ROOM}
@@ -49,6 +54,16 @@ FindsClocks board c = board.absent ≡ nothing_held → no_clock board c ≡ nat
 abbrev pub Rounds : Board → (c flags asked : ℕ) → Type 0
 Rounds board c flags asked =
     board.free ≡ 0 → rate_for board c flags asked ≡ rounded_rate (clock_at board c).rates flags asked
+
+-- a message asks what it says, of each protocol
+abbrev pub ReadsAll : Board → Message → Type 0
+ReadsAll board m = board.protocols ≡ own_protocols → command_on board m ≡ command_of m
+
+-- power domains and clocks are the protocols that are listed
+abbrev pub ListsOwn : Board → (caller skip : ℕ) → Type 0
+ListsOwn board caller skip =
+    board.protocols ≡ own_protocols
+    → base_reply board caller (Protocols skip) ≡ protocols_reply own_protocols skip
 
 -- an agent that all pending sets may be of has room for what is left of them and of its outbox
 abbrev pub SharesAll : (waiting a : ℕ) → List PendingSet → Type 0

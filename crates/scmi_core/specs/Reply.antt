@@ -1,6 +1,5 @@
 -- The reply to a command, and the answer to a frame, by the situation of its agent.
 use Rattle.std.specs.Prelude.{ℕ, Bool, nat_le, if◌then◌else◌, List, [], ◌∷◌, length, Result, Ok, Err}
-use Rattle.scmi_codec.specs.Command.{command_of}
 use Rattle.scmi_codec.specs.declared.status.Status.{Status}
 use Rattle.scmi_codec.specs.declared.message.Message.{Message}
 use Rattle.scmi_codec.specs.declared.frame.Frame.{Frame}
@@ -16,6 +15,7 @@ use Rattle.scmi_power.specs.PowerReply.{power_reply}
 use Rattle.scmi_clock.specs.ClockReply.{clock_reply}
 use Rattle.scmi_codec.specs.declared.fault.Fault.{Fault}
 use Rattle.scmi_core.specs.Outbox.{failed_words, message_with}
+use Rattle.scmi_core.specs.ReadCommand.{command_on}
 use Rattle.scmi_core.specs.Situation.{Situation, clock_view, power_view}
 
 -- the payload of the reply to a command of agent a, or to a message that is not a command: its status alone
@@ -31,11 +31,11 @@ fits_channel board a m = nat_le (length m.payload.items) (channel_of board a).wo
 
 -- the payload of the reply that a message of agent a gets; one that is longer than its channel gets none
 abbrev pub words_given : Board → ℕ → Situation → Message → List ℕ
-words_given board a s m = if fits_channel board a m then reply_words board a s (command_of m) else []
+words_given board a s m = if fits_channel board a m then reply_words board a s (command_on board m) else []
 
 -- the reply to a message of agent a: the message's header, and the payload
 abbrev pub reply_in : Board → ℕ → Message → Situation → Message
-reply_in board a m s = message_with m.header (reply_words board a s (command_of m))
+reply_in board a m s = message_with m.header (reply_words board a s (command_on board m))
 
 -- the answer to a frame of agent a: the reply to a message, a channel error to a malformed frame and to one that is
 -- longer than its channel

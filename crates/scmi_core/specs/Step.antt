@@ -3,7 +3,6 @@ use Rattle.std.specs.Prelude.{◌≡◌, ℕ, ◌&&◌, nat_lt, Bool, if◌then�
 use Rattle.std.specs.Option.{option_map_or, option_and_then, option_to_list}
 use Rattle.std.specs.List.{All}
 use Rattle.scmi_codec.specs.Header.{HeaderFields}
-use Rattle.scmi_codec.specs.Command.{command_of}
 use Rattle.scmi_codec.specs.declared.status.Status.{Status}
 use Rattle.scmi_codec.specs.declared.message.Message.{Message}
 use Rattle.scmi_codec.specs.declared.frame.Frame.{Frame}
@@ -28,6 +27,7 @@ use Rattle.scmi_core.specs.Deed.{Success, success_of}
 use Rattle.scmi_core.specs.Pending.{acceptance, unwanted}
 use Rattle.scmi_core.specs.Permissions.{permission_in}
 use Rattle.scmi_core.specs.Outbox.{failed_response_for, made_in, state_changed}
+use Rattle.scmi_core.specs.ReadCommand.{command_on}
 use Rattle.scmi_core.specs.Reply.{words_given}
 use Rattle.scmi_core.specs.Subscriptions.{subscription, subscription_after_reset}
 use Rattle.scmi_core.specs.declared.outboxes.TheConstants.{OUTBOX_ROOM}
@@ -53,7 +53,7 @@ HasExecuted board a header command reply t new = HasStepped board t (success_of 
 
 -- what a frame of agent a leaves; a malformed frame changes nothing
 abbrev pub HasAnswered : Board → ℕ → Frame → Tables → Tables → Type 0
-HasAnswered board a (Good m) t new = HasExecuted board a m.header (command_of m) (words_given board a (situation_in a t) m) t new
+HasAnswered board a (Good m) t new = HasExecuted board a m.header (command_on board m) (words_given board a (situation_in a t) m) t new
 HasAnswered board a (Malformed len header) t new = new ≡ t
 
 -- nothing but outboxes changed

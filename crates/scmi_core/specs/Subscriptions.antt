@@ -6,6 +6,7 @@ use Rattle.scmi_codec.specs.declared.command.Command.TheVariants.{Base, Power, C
 use Rattle.scmi_codec.specs.declared.command.Command as codec
 use Rattle.scmi_base.specs.Permission.{reset_by}
 use Rattle.scmi_power.specs.PowerTable.{notification}
+use Rattle.scmi_plan.specs.Board.{Board}
 use Rattle.scmi_core.specs.Deed.{Deed, Success, latest, restarted_by, success_at}
 
 -- a reset ends the notification requests of its agent (own)
@@ -22,11 +23,11 @@ subscription a d s = said_by s.command where
   said_by (Clock c) = None
 
 -- what a deed says about it: a restart of the agent ends its requests, as a reset does (own)
-abbrev pub subscription_at : ℕ → ℕ → Deed → Option Bool
-subscription_at a d deed =
-    option_or (subscription_after_reset a (restarted_by deed.event)) (option_and_then (subscription a d) (success_at deed.event deed.reply))
+abbrev pub subscription_at : Board → ℕ → ℕ → Deed → Option Bool
+subscription_at board a d deed =
+    option_or (subscription_after_reset a (restarted_by deed.event)) (option_and_then (subscription a d) (success_at board deed.event deed.reply))
 
 -- an agent is notified of a domain if its latest request, reset or restart says so (DEN0056B, power
 -- domain management protocol)
-abbrev pub is_subscriber : ℕ → ℕ → List Deed → Bool
-is_subscriber a d h = latest false (filter_map (subscription_at a d) h)
+abbrev pub is_subscriber : Board → ℕ → ℕ → List Deed → Bool
+is_subscriber board a d h = latest false (filter_map (subscription_at board a d) h)

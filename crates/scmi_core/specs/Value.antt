@@ -95,7 +95,7 @@ reported _ = None
 
 -- the change that a deed makes for a command, at once or as its set completes, given the deeds before it
 abbrev pub commanded_by : Board → List Deed → Deed → Option Change
-commanded_by board before deed = change_of board (success_at deed.event deed.reply) (completed_set board before deed.event)
+commanded_by board before deed = change_of board (success_at board deed.event deed.reply) (completed_set board before deed.event)
 
 -- the change that a deed makes, given the deeds before it: one that the hardware reported, or one for a command
 abbrev pub change_by : Board → List Deed → Deed → Option Change

@@ -1,7 +1,6 @@
 -- What the definitions give on a whole channel, of 64 words and both ways: what they give if no channel is shorter, and none one way.
 use Rattle.std.specs.Prelude.{◌≡◌, ℕ, ◌-◌, ◌*◌, ◌+◌, ◌^◌, ◌≤◌, ◌&&◌, ◌||◌, Bool, not, List, [], ◌∷◌, length, take, drop, if◌then◌else◌, min, is_none}
 use Rattle.std.specs.List.{flat_map}
-use Rattle.scmi_codec.specs.Command.{command_of}
 use Rattle.scmi_codec.specs.Rate.{rate_words}
 use Rattle.scmi_codec.specs.Reply.{bit_0, other_bits, reply_unless}
 use Rattle.scmi_codec.specs.declared.frame.Answer.TheVariants.{Reply}
@@ -14,6 +13,7 @@ use Rattle.scmi_plan.specs.Rates as rates
 use Rattle.scmi_power.specs.PowerReply.{attributes, bit, is_state, no_domain, notify_reply, set_reply}
 use Rattle.scmi_clock.specs.ClockReply.{attributes_reply, no_clock, rate_for, rates_word, rates_words, set_checks}
 use Rattle.scmi_clock.specs.SetFlags.{has_unknown_flags, is_asynchronous}
+use Rattle.scmi_core.specs.ReadCommand.{command_on}
 use Rattle.scmi_core.specs.Reply.{answer_in, reply_in, reply_words, words_given}
 use Rattle.scmi_core.specs.Situation.{Situation}
 
@@ -72,4 +72,4 @@ ShowsAttributes row = attributes whole_channel row ≡ bit row.notify 0x80000000
 abbrev pub AnswersEach : Board → ℕ → Message → Situation → Type 0
 AnswersEach board a m s =
     channel_of board a ≡ whole_channel → length m.payload.items ≤ 64
-    → (words_given board a s m ≡ reply_words board a s (command_of m)) × (answer_in board a (Good m) s ≡ Reply (reply_in board a m s))
+    → (words_given board a s m ≡ reply_words board a s (command_on board m)) × (answer_in board a (Good m) s ≡ Reply (reply_in board a m s))

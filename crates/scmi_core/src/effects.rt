@@ -15,6 +15,7 @@ ghost use Rattle.scmi_core.specs.declared.event.Event.{Event};
 ghost use Rattle.scmi_core.specs.declared.event.Event.TheVariants.{Command as Called};
 
 use crate::channel::fits_channel;
+use crate::read_command::read_command;
 use crate::tables::Tables;
 use scmi_codec::{
     CLOCK_PROTOCOL, ClockCommand, Command, Frame, Header, Message, POWER_PROTOCOL, PowerCommand,
@@ -60,7 +61,7 @@ impl Tables {
         ensures { result
             ≡ effect_read plan.now agent message.now (situation_in agent self.now) }
     {
-        match Command::read(message) {
+        match read_command(plan, message) {
             Ok(Command::Power(command)) => self.power_effect(plan, agent, command),
             Ok(Command::Clock(command)) => self.clock_effect(plan, agent, command),
             _ => None,

@@ -36,6 +36,7 @@ mod platform_hardware;
 mod platform_readers;
 mod platform_reports;
 mod platform_restart;
+mod read_command;
 mod report;
 mod restart;
 mod said;

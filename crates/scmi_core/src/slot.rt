@@ -32,7 +32,7 @@ impl Model for Slot {
 
 impl Slot {
     /// The content of a place that holds no message.
-    pub fn new() -> Slot {
+    pub(crate) fn new() -> Slot {
         Slot {
             header: Header::default(),
             count: 0,
@@ -41,7 +41,7 @@ impl Slot {
     }
 
     /// Becomes the message of this header and these payload words.
-    pub fn set(&mut self, header: Header, words: &[u32])
+    pub(crate) fn set(&mut self, header: Header, words: &[u32])
         requires { length words.now ≤ SLOT_WORDS }
         ensures { self.new ≡ message_with header words.now }
     {
@@ -51,7 +51,7 @@ impl Slot {
     }
 
     /// Whether another message is the same: in each field of the header, and in each word.
-    pub fn is_same(&self, other: &Slot) -> bool
+    pub(crate) fn is_same(&self, other: &Slot) -> bool
         ensures { (result ≡ true) ↔ (self.now ≡ other.now) }
     {
         self.header == other.header && self.words() == other.words()
@@ -65,7 +65,7 @@ impl Slot {
     }
 
     /// Becomes the same message as another.
-    pub fn copy_from(&mut self, other: &Slot)
+    pub(crate) fn copy_from(&mut self, other: &Slot)
         ensures { self.new ≡ other.now }
     {
         self.header = other.header;

@@ -27,6 +27,7 @@ use crate::channel::fits_channel;
 use crate::outboxes::Outboxes;
 use crate::pending::Pending;
 use crate::pending_set::{PendingSet, Setting};
+use crate::read_command::read_command;
 use scmi_base::BaseState;
 use scmi_clock::ClockState;
 use scmi_codec::{
@@ -130,7 +131,7 @@ impl Tables {
         ensures stepped { HasAnswered plan.now agent (Good message.now) self.old self.new }
     {
         if fits_channel(plan, agent, message) {
-            let command = Command::read(message);
+            let command = read_command(plan, message);
             let header = message.header;
             reply.header = header;
             self.execute(plan, agent, header, command, &mut reply.payload);

@@ -5,8 +5,8 @@ use crate::plan_fault::Kind;
 use crate::rows::count_of;
 use crate::wrong::Wrong;
 use scmi_board::{byte, word};
-use scmi_codec::{CLOCK_PROTOCOL, POWER_PROTOCOL, is_channel_size};
-use scmi_plan::{DEVICES, PENDING_SETS};
+use scmi_codec::{BASE_PROTOCOL, CLOCK_PROTOCOL, POWER_PROTOCOL, is_channel_size};
+use scmi_plan::{DEVICES, PENDING_SETS, PROTOCOLS};
 use std::str::from_utf8;
 
 /// What an item of a line has to be.
@@ -34,6 +34,8 @@ pub(crate) enum Field {
     Share,
     /// The number of a protocol that permissions are for.
     Protocol,
+    /// The ids of a board's protocols with commas between them.
+    Protocols,
     /// This word.
     Word(&'static str),
     /// The first of these words, in place of which another form has the second.
@@ -49,6 +51,7 @@ impl Field {
             Field::Kinds => (!are_kinds(item)).then_some(Wrong::NotKinds),
             Field::Rates => rates_wrong(item),
             Field::Places => places_wrong(item),
+            Field::Protocols => protocols_wrong(item),
             Field::Number(width) => NumberFault::of(item, width).map(Wrong::Number),
             Field::Word(text) => (item != text.as_bytes()).then_some(Wrong::NotWord(text)),
             Field::Either(text, other) => {
@@ -103,6 +106,22 @@ fn rates_wrong(item: &[u8]) -> Option<Wrong> {
         if let Some(fault) = NumberFault::of(rate, Width::Bits64) {
             return Some(Wrong::NotRates(fault));
         }
+    }
+    None
+}
+
+fn protocols_wrong(item: &[u8]) -> Option<Wrong> {
+    let mut last = BASE_PROTOCOL;
+    let mut count = 0usize;
+    for part in item.split(|byte| *byte == b',') {
+        let Some(id) = byte(part) else {
+            return Some(Wrong::NotProtocols);
+        };
+        if id <= last || count == PROTOCOLS {
+            return Some(Wrong::NotProtocols);
+        }
+        last = id;
+        count += 1;
     }
     None
 }

@@ -63,7 +63,7 @@ const ABSENT: &str = "absent domain|clock N";
 
 /// The lines behind these rows, in the modes that take them. Of the forms of a line the longest is
 /// first: its fault says which word may come next, where a shorter one says that none may.
-pub(crate) const LINES_BEHIND: [Form; 11] = forms![
+pub(crate) const LINES_BEHIND: [Form; 12] = forms![
     "channel" [Field::Agent, Field::Bytes, Field::Either("one-way", "pending"),
         Field::Word("pending"), Field::Share] false CHANNEL;
     "channel" [Field::Agent, Field::Bytes, Field::Word("pending"), Field::Share] false CHANNEL;
@@ -76,6 +76,7 @@ pub(crate) const LINES_BEHIND: [Form; 11] = forms![
     "absent" [Field::Either("domain", "clock"), Field::Numbered(Kind::Domains)] false ABSENT;
     "absent" [Field::Either("clock", "domain"), Field::Numbered(Kind::Clocks)] false ABSENT;
     "free" [Field::Word("clock"), Field::Numbered(Kind::Clocks)] false "free clock N";
+    "protocols" [Field::Protocols] false "protocols P,P,..";
 ];
 
 /// The lines of a script on one thread.

@@ -27,6 +27,8 @@ pub enum Wrong {
     NotShare,
     /// There are no permissions for this protocol.
     NotProtocol,
+    /// It is not ids of protocols that rise, with commas between them.
+    NotProtocols,
     /// It is no UTF-8.
     NotUtf8,
     /// It is neither `on` nor `off`.
@@ -74,6 +76,10 @@ impl Wrong {
             Wrong::NotBytes => "is not from 60 to 284, in steps of 4",
             Wrong::NotShare => "is not from 1 to 8",
             Wrong::NotProtocol => "is not 0x11 (power domains) or 0x14 (clocks)",
+            Wrong::NotProtocols => {
+                "is not 1 to 16 ids of protocols from 0x11 to 0xff, each above the one before, with \
+                 commas between them"
+            }
             Wrong::NotUtf8 => "is not UTF-8",
             Wrong::NotSwitch => "is not \"on\" or \"off\"",
             Wrong::NotKinds => "is not \"-\" or some of s, a and n, each at most once",

@@ -1,7 +1,6 @@
 -- The answer to a command that the hardware refused, and to one that it did not.
 use Rattle.std.proofs.Common.{◌≡◌, ◌≢◌, ℕ, Bool, true, false, List, [], ◌∷◌, Option, Some, None, option_map, unwrap_or, refl, sym, ap, ◌∙◌, if◌then◌else◌}
 use Rattle.std.proofs.lemmas.Bool.{ne_eqb}
-use Rattle.scmi_codec.specs.Command.{command_of}
 use Rattle.scmi_codec.specs.Payload.{begins_with_success}
 use Rattle.scmi_codec.specs.declared.message.Message.{Message}
 use Rattle.scmi_codec.specs.declared.frame.Frame.{Frame}
@@ -17,6 +16,7 @@ use Rattle.scmi_core.specs.Deed.{success_of}
 use Rattle.scmi_core.specs.Effect.{effect_after, effect_in, effect_of, effect_read}
 use Rattle.scmi_core.specs.History.{answer_to, deeds}
 use Rattle.scmi_core.specs.Outbox.{failed_words, message_with, situation_after}
+use Rattle.scmi_core.specs.ReadCommand.{command_on}
 use Rattle.scmi_core.specs.Reply.{failed_answer, fits_channel, reply_words}
 use Rattle.scmi_core.specs.Value.{change_of}
 use Rattle.scmi_codec.specs.declared.fault.Fault.{Fault}
@@ -34,7 +34,7 @@ effect-given : (board : Board) (h : List Event) (a : ℕ) (m : Message) (e : Eff
     → effect_in board a (Good m) (situation_after board a (deeds board h)) ≡ Some e
 effect-given board h a m e has = by (fits_channel board a m) has where
   by : (short : Bool)
-      → option_map effect_of (change_of board (success_of a m.header (command_of m) (if short then reply_words board a (situation_after board a (deeds board h)) (command_of m) else [])) None) ≡ Some e
+      → option_map effect_of (change_of board (success_of a m.header (command_on board m) (if short then reply_words board a (situation_after board a (deeds board h)) (command_on board m) else [])) None) ≡ Some e
       → (if short then effect_read board a m (situation_after board a (deeds board h)) else None) ≡ Some e
   by true has = has
   by false has = has
@@ -46,11 +46,11 @@ message-succeeds board h a m e has =
     let s = situation_after board a (deeds board h) in
     let fit = effect-fits board a m s e (effect-given board h a m e has) in
     answer-fits board a m s fit.0 ∙ ap (λ words. Reply (message_with m.header words)) (words e fit.1) where
-      words : (e : Effect) → effect_by board a m.header (situation_after board a (deeds board h)) (command_of m) ≡ Some e
-          → reply_words board a (situation_after board a (deeds board h)) (command_of m) ≡ 0 ∷ []
-      words (effect.State d state) has = (state-set board a m.header (situation_after board a (deeds board h)) (command_of m) d state has).reply
-      words (effect.Rate c rate) has = (rate-set board a m.header (situation_after board a (deeds board h)) (command_of m) c rate has).reply
-      words (effect.Enabled c enabled) has = (config-set board a m.header (situation_after board a (deeds board h)) (command_of m) c enabled has).reply
+      words : (e : Effect) → effect_by board a m.header (situation_after board a (deeds board h)) (command_on board m) ≡ Some e
+          → reply_words board a (situation_after board a (deeds board h)) (command_on board m) ≡ 0 ∷ []
+      words (effect.State d state) has = (state-set board a m.header (situation_after board a (deeds board h)) (command_on board m) d state has).reply
+      words (effect.Rate c rate) has = (rate-set board a m.header (situation_after board a (deeds board h)) (command_on board m) c rate has).reply
+      words (effect.Enabled c enabled) has = (config-set board a m.header (situation_after board a (deeds board h)) (command_on board m) c enabled has).reply
 
 -- a command that is to change the hardware succeeds
 change-succeeds : (board : Board) (h : List Event) (a : ℕ) (f : Frame) → effect_after board h (Command a f) ≢ None → has_succeeded (answer_to board a f h) ≡ true

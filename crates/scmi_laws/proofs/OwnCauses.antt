@@ -3,7 +3,6 @@ use Rattle.std.proofs.Common.{◌≡◌, inl, inr, ℕ, ◌<◌, ◌≤◌, Bool
 use Rattle.std.specs.List.{AllZip}
 use Rattle.std.specs.Option.{option_and_then, option_or, option_to_list}
 use Rattle.std.proofs.lemmas.List.{append_assoc, append-nil, length-append}
-use Rattle.scmi_codec.specs.Command.{command_of}
 use Rattle.scmi_codec.specs.Header.{HeaderFields}
 use Rattle.scmi_codec.specs.Reply.{bit_0}
 use Rattle.scmi_codec.specs.declared.frame.Frame.TheVariants.{Good, Malformed}
@@ -28,6 +27,7 @@ use Rattle.scmi_core.specs.Laws.{change_asked, may_after}
 use Rattle.scmi_core.specs.Legal.{CanFollow, IsLegal}
 use Rattle.scmi_core.specs.Outbox.{situation_after}
 use Rattle.scmi_core.specs.Pending.{acceptance, pending_sets, rate_set, state_set, unwanted}
+use Rattle.scmi_core.specs.ReadCommand.{command_on}
 use Rattle.scmi_core.specs.Reply.{fits_channel, reply_words}
 use Rattle.scmi_core.specs.Value.{Change, change_now, change_reported, changes, completion}
 use Rattle.scmi_core.proofs.Causes.{IsOwn, asked-own}
@@ -164,16 +164,16 @@ said board h effect change follows is =
 module _ (board : Board) (h : List Event) (a : ℕ) (m : Message) (change : Change) where
   abbrev success_there : ℕ → Option Success
   success_there x =
-      success_at (Command x (Good m)) (deed_after board (deeds board h) (Command x (Good m))).reply
+      success_at board (Command x (Good m)) (deed_after board (deeds board h) (Command x (Good m))).reply
 
   own : (fits : Bool)
       → option_and_then (change_asked board)
-      (success_of a m.header (command_of m)
-      (if fits then reply_words board a (situation_after board a (deeds board h)) (command_of m)
+      (success_of a m.header (command_on board m)
+      (if fits then reply_words board a (situation_after board a (deeds board h)) (command_on board m)
       else [])) ≡ Some change
       → IsOwn board a (situation_after board a (deeds board h)) change
   own true asked =
-      asked-own board a m.header (situation_after board a (deeds board h)) change (command_of m)
+      asked-own board a m.header (situation_after board a (deeds board h)) change (command_on board m)
       asked
   own false asked = absurd (cc)
 
@@ -401,7 +401,7 @@ module _ (board : Board) (h : List Event) (legal : IsLegal board h) (had : IsPla
   placed : (e : Event) → CanFollow board h e → IsPlaced board (h ++ e ∷ [])
   placed (Command a (Good m)) follows =
       let e = Command a (Good m) in
-      let success = success_at e (deed_after board ds e).reply in
+      let success = success_at board e (deed_after board ds e).reply in
       onward e
       (one-more board h e cs ps had (option_and_then (change_now board) success)
       (option_and_then (acceptance board) success)

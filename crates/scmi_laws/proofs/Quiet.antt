@@ -8,7 +8,6 @@ use Rattle.std.proofs.lemmas.List.{append-nil, length-take-le}
 use Rattle.std.proofs.lemmas.List.Elements.{filter_map-append}
 use Rattle.std.proofs.lemmas.Bool.{eqb-true}
 use Rattle.scmi_codec.specs.Header.{HeaderFields}
-use Rattle.scmi_codec.specs.Command.{command_of}
 use Rattle.scmi_codec.specs.Payload.{begins_with_success}
 use Rattle.scmi_codec.specs.declared.status.Status.{Status}
 use Rattle.scmi_codec.specs.declared.command.Command as codec
@@ -28,6 +27,7 @@ use Rattle.scmi_core.specs.Legal.{CanFollow, IsLegal}
 use Rattle.scmi_core.specs.Outbox.{failed_response_for, is_restart_of, is_sent_by, made_in, messages_left, messages_made, sent_count}
 use Rattle.scmi_core.specs.Pending.{acceptance, is_advance, pending_sets}
 use Rattle.scmi_core.specs.Permissions.{permission_in}
+use Rattle.scmi_core.specs.ReadCommand.{command_on}
 use Rattle.scmi_core.specs.Reply.{answer_in}
 use Rattle.scmi_core.specs.Situation.{Situation}
 use Rattle.scmi_core.specs.Subscriptions.{subscription, subscription_after_reset}
@@ -57,9 +57,9 @@ unsaid board says silent (Some s) nothing = silent s nothing
 -- nothing
 module _ (board : Board) (b : ℕ) (s : Situation) (deed : Deed) (c : ℕ) (frame : Frame)
     (event : deed.event ≡ Command c frame)
-    (nothing : IfSome (added_success deed) (DoesNothing board)) where
+    (nothing : IfSome (added_success board deed) (DoesNothing board)) where
   abbrev success : Option Success
-  success = added_success deed
+  success = added_success board deed
 
   abbrev left : List PendingSet
   left = pending_next board s.pending deed
@@ -110,20 +110,20 @@ module _ (board : Board) (b : ℕ) (s : Situation) (deed : Deed) (c : ℕ) (fram
       }
 
 -- whose a command is that was refused or reads
-own_true : (own refused : Bool) (frame : Frame)
+own_true : (board : Board) (own refused : Bool) (frame : Frame)
     → (is_some (if own then Some frame else None) && refused
-    || option_map_or is_read_frame (if own then Some frame else None) false) ≡ true
-    → (own ≡ true) × ((refused || is_read_frame frame) ≡ true)
-own_true true refused frame is = (refl, is)
-own_true false refused frame is = absurd (cc)
+    || option_map_or (is_read_frame board) (if own then Some frame else None) false) ≡ true
+    → (own ≡ true) × ((refused || is_read_frame board frame) ≡ true)
+own_true board true refused frame is = (refl, is)
+own_true board false refused frame is = absurd (cc)
 
 -- and one that failed, which is refused
-own_refused : (own refused : Bool) (frame : Frame) → refused ≡ true
+own_refused : (board : Board) (own refused : Bool) (frame : Frame) → refused ≡ true
     → (is_some (if own then Some frame else None) && refused
-    || option_map_or is_read_frame (if own then Some frame else None) false) ≡ true
+    || option_map_or (is_read_frame board) (if own then Some frame else None) false) ≡ true
     → (is_some (if own then Some frame else None) && refused) ≡ true
-own_refused true refused frame so is = so
-own_refused false refused frame so is = absurd (cc)
+own_refused board true refused frame so is = so
+own_refused board false refused frame so is = absurd (cc)
 
 -- its success, if it is one, does nothing
 module _ (board : Board) (c : ℕ) where
@@ -137,9 +137,9 @@ module _ (board : Board) (c : ℕ) where
 
   command-nothing : (before : List Deed) (frame : Frame)
       → (not (begins_with_success (deed_after board before (Command c frame)).reply)
-      || is_read_frame frame) ≡ true
-      → IfSome (added_success (deed_after board before (Command c frame))) (DoesNothing board)
-  command-nothing before (Good m) is = success-nothing m.header (command_of m) _ is
+      || is_read_frame board frame) ≡ true
+      → IfSome (added_success board (deed_after board before (Command c frame))) (DoesNothing board)
+  command-nothing before (Good m) is = success-nothing m.header (command_on board m) _ is
   command-nothing before (Malformed len header) is = tt
 
 -- one quiet event more
@@ -150,7 +150,7 @@ read board h a (Command c frame) legal is =
     let e = Command c frame in
     let ds = deeds board h in
     let deed = deed_after board ds e in
-    let own = own_true (a == c) _ frame is in
+    let own = own_true board (a == c) _ frame is in
     let same = eqb-true a c own.0 in
     let event = deed-event board ds e in
     let nothing = command-nothing board c ds frame own.1 in
@@ -176,11 +176,11 @@ read board h a (Command c frame) legal is =
     }
 read board h a (CommandFailed c (Good m) fault) legal is =
     let e = CommandFailed c (Good m) fault in
-    refused board h a e legal (own_refused (a == c) _ (Good m) (unsuccessful fault) is)
+    refused board h a e legal (own_refused board (a == c) _ (Good m) (unsuccessful fault) is)
 read board h a (CommandFailed c (Malformed len header) fault) legal is =
     let frame = Malformed len header in
     let e = CommandFailed c frame fault in
-    refused board h a e legal (own_refused (a == c) true frame refl is)
+    refused board h a e legal (own_refused board (a == c) true frame refl is)
 read board h a Advance legal is = absurd (cc)
 read board h a (AdvanceFailed fault) legal is = absurd (cc)
 read board h a (Sent c) legal is = absurd (cc)

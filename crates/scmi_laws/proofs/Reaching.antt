@@ -5,7 +5,6 @@ use Rattle.std.specs.Option.{option_and_then, option_map_or, option_or, option_t
 use Rattle.std.proofs.lemmas.List.{append-nil}
 use Rattle.std.proofs.lemmas.List.Elements.{All-pop}
 use Rattle.std.proofs.lemmas.Bool.{eq-eqb, eqb-true, ne_eqb}
-use Rattle.scmi_codec.specs.Command.{command_of}
 use Rattle.scmi_codec.specs.Header.{HeaderFields}
 use Rattle.scmi_codec.specs.Payload.{begins_with_success}
 use Rattle.scmi_codec.specs.Reply.{Check, bit_0, other_bits, reply_unless}
@@ -36,6 +35,7 @@ use Rattle.scmi_core.specs.Pending.{acceptance, rate_set, sets_by, state_set}
 use Rattle.scmi_core.specs.Permissions.{permission_in}
 use Rattle.scmi_core.specs.declared.outboxes.TheConstants.{OUTBOX_ROOM}
 use Rattle.scmi_codec.specs.declared.message.Message.{Message}
+use Rattle.scmi_core.specs.ReadCommand.{command_on}
 use Rattle.scmi_core.specs.Reply.{fits_channel, reply_words}
 use Rattle.scmi_core.specs.Situation.{Situation}
 use Rattle.scmi_core.specs.Subscriptions.{subscription}
@@ -177,26 +177,26 @@ module _ (board : Board) (h : List Event) (a : ℕ) (m : Message) where
   deed = deed_after board (deeds board h) (Command a (Good m))
 
   abbrev reply : List ℕ
-  reply = reply_words board a (situation_of board a h) (command_of m)
+  reply = reply_words board a (situation_of board a h) (command_on board m)
 
   abbrev answered : Bool → Option Success
-  answered fits = success_of a m.header (command_of m) (if fits then reply else [])
+  answered fits = success_of a m.header (command_on board m) (if fits then reply else [])
 
-  trusted : IfSome (added_success deed) (IsTrusted board)
+  trusted : IfSome (added_success board deed) (IsTrusted board)
   trusted =
       let h' = h ++ Command a (Good m) ∷ [] in
       let pushed = deeds-push board h (Command a (Good m)) in
-      let more = ap successes pushed ∙ successes-push (deeds board h) deed in
-      (All-pop (IsTrusted board) (successes (deeds board h')) (successes (deeds board h))
-      (added_success deed) more (permissions board h')).1
+      let more = ap (successes board) pushed ∙ successes-push board (deeds board h) deed in
+      (All-pop (IsTrusted board) (successes board (deeds board h')) (successes board (deeds board h))
+      (added_success board deed) more (permissions board h')).1
 
   answered-own : (fits : Bool) → IfSome (answered fits) (IsTrusted board)
       → IsOwnSuccess board h a (answered fits)
   answered-own true all =
-      reply-own board h a m.header (command_of m) (begins_with_success reply) refl all
+      reply-own board h a m.header (command_on board m) (begins_with_success reply) refl all
   answered-own false all = none-own board h a
 
-  message-own : IsOwnSuccess board h a (added_success deed)
+  message-own : IsOwnSuccess board h a (added_success board deed)
   message-own = answered-own (fits_channel board a m) trusted
 
 -- WHAT IT CHANGES OF ANOTHER AGENT'S SITUATION
@@ -339,5 +339,5 @@ reaches board h a b frame legal differ =
         reaches-moved board h a b (situation_of board b h) differ None (none-own board h a)
     by (Good m) =
         reaches-moved board h a b (situation_of board b h) differ
-        (added_success (deed_after board (deeds board h) (Command a (Good m))))
+        (added_success board (deed_after board (deeds board h) (Command a (Good m))))
         (message-own board h a m)

@@ -440,7 +440,7 @@ module _ (board : Board) (h : List Event) (e x : Event)
       let ps = pending_sets board (deeds board h) in
       if is_advance it then drop 1 ps
       else pending_left (restarted_by it) ps
-      ++ option_to_list (option_and_then (acceptance board) (added_success deed))
+      ++ option_to_list (option_and_then (acceptance board) (added_success board deed))
 
   pending-by : pending_sets board (deeds board (h ++ e ∷ [])) ≡ left_by x
   pending-by = pending-more board h e legal ∙ ap left_by (deed-event board (deeds board h) e ∙ same)

@@ -1,7 +1,6 @@
 -- An answer depends on values, permissions, pending sets and room.
 use Rattle.std.proofs.Common.{◌≡◌, ℕ, ◌==◌, List, refl, ap, if◌then◌else◌}
 use Rattle.std.specs.Prelude.{Result, Ok, Err}
-use Rattle.scmi_codec.specs.Command.{command_of}
 use Rattle.scmi_codec.specs.declared.status.Status.{Status}
 use Rattle.scmi_codec.specs.declared.command.Command as codec
 use Rattle.scmi_codec.specs.declared.command.Command.TheVariants.{Base, Power, Clock}
@@ -16,6 +15,7 @@ use Rattle.scmi_clock.specs.ClockReply.{clock_reply}
 use Rattle.scmi_core.specs.declared.event.Event.{Event}
 use Rattle.scmi_core.specs.History.{answer_to}
 use Rattle.scmi_core.specs.Outbox.{message_with}
+use Rattle.scmi_core.specs.ReadCommand.{command_on}
 use Rattle.scmi_core.specs.Reply.{answer_in, fits_channel, reply_words}
 use Rattle.scmi_core.specs.Situation.{Situation, clock_view, power_view}
 use Rattle.scmi_core.specs.Value.{Enabled, Rate, State}
@@ -53,7 +53,7 @@ module _ (board : Board) (b : ℕ) (s u : Situation) (alike : AreSeenAlike board
   answer-same : (frame : Frame) → answer_in board b frame s ≡ answer_in board b frame u
   answer-same (Good m) =
       ap (λ words. if fits_channel board b m then Reply (message_with m.header words)
-      else ChannelError) (reply-same (command_of m))
+      else ChannelError) (reply-same (command_on board m))
   answer-same (Malformed len header) = refl
 
 pub answers : (board : Board) (h k : List Event) (b : ℕ) (frame : Frame) → SeesTheSame board b h k

@@ -1,7 +1,6 @@
 -- Which commands only read, and a history without those of one agent.
 use Rattle.std.specs.Prelude.{◌≡◌, ℕ, ◌||◌, Bool, true, false, if◌then◌else◌, List, [], ◌∷◌, None, Result, Ok, Err}
 use Rattle.std.specs.Option.{option_map_or}
-use Rattle.scmi_codec.specs.Command.{command_of}
 use Rattle.scmi_codec.specs.declared.status.Status.{Status}
 use Rattle.scmi_codec.specs.declared.frame.Frame.{Frame}
 use Rattle.scmi_codec.specs.declared.frame.Frame.TheVariants.{Good, Malformed}
@@ -12,6 +11,7 @@ use Rattle.scmi_codec.specs.declared.power_command.PowerCommand.TheVariants as p
 use Rattle.scmi_codec.specs.declared.clock_command.ClockCommand.TheVariants as clock
 use Rattle.scmi_plan.specs.Board.{Board}
 use Rattle.scmi_plan.specs.declared.scope.Scope.{Scope}
+use Rattle.scmi_core.specs.ReadCommand.{command_on}
 use Rattle.scmi_core.specs.declared.event.Event.{Event}
 use Rattle.scmi_core.specs.Agents.{frame_from}
 use Rattle.scmi_core.specs.Deed.{Success, flat_map_with_prefix}
@@ -48,14 +48,14 @@ only_reads (Ok c) = is_read c
 only_reads (Err e) = false
 
 -- whether a frame is a message that is such a command
-abbrev pub is_read_frame : Frame → Bool
-is_read_frame (Good m) = only_reads (command_of m)
-is_read_frame (Malformed len header) = false
+abbrev pub is_read_frame : Board → Frame → Bool
+is_read_frame board (Good m) = only_reads (command_on board m)
+is_read_frame board (Malformed len header) = false
 
 -- whether an event is a command of agent a, done or failed, that was refused or only reads
 abbrev pub is_quiet : Board → ℕ → List Event → Event → Bool
 is_quiet board a before event =
-    is_refused board a before event || option_map_or is_read_frame (frame_from a event) false
+    is_refused board a before event || option_map_or (is_read_frame board) (frame_from a event) false
 
 -- a history without agent a's commands that were refused or only read, each judged at its place
 unfoldable pub without_quiet : Board → ℕ → List Event → List Event

@@ -10,9 +10,10 @@ use Rattle.std.proofs.lemmas.Nat.{div-add-mod', le-div}
 use Rattle.std.proofs.Math.Nat.{mul-mod_left, zero-mul, le-div_iff_mul-le}
 use Rattle.scmi_codec.specs.Name.{IsName}
 use Rattle.scmi_codec.specs.declared.name.TheConstants.{NAME_BYTES}
-use Rattle.scmi_plan.specs.Board.{Board, IsChannel, whole_channel}
+use Rattle.scmi_plan.specs.Board.{Board, IsChannel, own_protocols, whole_channel}
 use Rattle.scmi_plan.specs.BoardRows.{AreRows, HasNames, board_of_rows}
 use Rattle.scmi_plan.specs.Plan.{IsValid}
+use Rattle.scmi_plan.specs.Protocols.{AreProtocols}
 use Rattle.scmi_plan.specs.Rates.{SupportedRates, HasValidRates, IsSupported}
 use Rattle.scmi_plan.specs.PlanError.{is_name, rises, is_valid_list, is_valid, supports, has_valid_counts, has_valid_names, has_valid_clocks, has_valid_devices, has_trusted_agent, first_fault}
 use Rattle.scmi_plan.specs.RawPlan.{asked_board, asked_domain, asked_clock}
@@ -172,9 +173,9 @@ module _ (board : Board) where
   Decides-trusted = Decides-and _ _ (Decides-leb 1 board.trusted) (Decides-leb board.trusted (length board.agents))
 
   -- the five tests together are the law of a board
-  Decides-tests : length board.channels ≡ AGENTS → All IsChannel board.channels
+  Decides-tests : length board.channels ≡ AGENTS → All IsChannel board.channels → AreProtocols board.protocols
       → Decides (has_valid_counts board && has_valid_names board && has_valid_clocks board && has_valid_devices board && has_trusted_agent board) (IsValid board)
-  Decides-tests each channels =
+  Decides-tests each channels listed =
       Decides-like _
       (λ w. let counts = w.0.0.0.0 in let names = w.0.0.0.1 in let clocks = w.0.0.1 in let devices = w.0.1 in
       record {
@@ -196,6 +197,7 @@ module _ (board : Board) where
         trusted_agent = w.1.1;
         channels = each;
         valid_channels = channels;
+        protocols = listed;
       })
       (λ law. (
         (
@@ -231,11 +233,16 @@ Decides-none true true true false e = (λ h. cc, λ h. cc)
 Decides-none true true true true false = (λ h. cc, λ h. cc)
 
 -- a board whose channels are valid breaks no rule if and only if it is valid
-valid_but : (board : Board) → length board.channels ≡ AGENTS → All IsChannel board.channels → (first_fault board ≡ None) ↔ IsValid board
-valid_but board each channels =
+valid_but : (board : Board) → length board.channels ≡ AGENTS → All IsChannel board.channels → AreProtocols board.protocols
+    → (first_fault board ≡ None) ↔ IsValid board
+valid_but board each channels listed =
     let none = Decides-none (has_valid_counts board) (has_valid_names board) (has_valid_clocks board) (has_valid_devices board) (has_trusted_agent board) in
-    let law = Decides-tests board each channels in
+    let law = Decides-tests board each channels listed in
     (λ h. law.0 (none.0 h), λ w. none.1 (law.1 w))
+
+-- power domains and clocks are protocols that a board may have
+own_protocols_are : AreProtocols own_protocols
+own_protocols_are = (omega arith, refl, refl)
 
 -- whole channels are valid
 whole_channels : All IsChannel (replicate AGENTS whole_channel)
@@ -243,11 +250,11 @@ whole_channels = All-replicate IsChannel AGENTS whole_channel (omega arith, omeg
 
 -- a board that was written down breaks no rule if and only if it is valid
 pub valid : (raw : RawPlan) → (first_fault (asked_board raw) ≡ None) ↔ IsValid (asked_board raw)
-valid raw = valid_but (asked_board raw) refl whole_channels
+valid raw = valid_but (asked_board raw) refl whole_channels own_protocols_are
 
 -- rows break no rule if and only if their board is valid
 pub valid_rows : (rows : Inside) → (first_fault (board_of_rows rows) ≡ None) ↔ IsValid (board_of_rows rows)
-valid_rows rows = valid_but (board_of_rows rows) refl whole_channels
+valid_rows rows = valid_but (board_of_rows rows) refl whole_channels own_protocols_are
 
 -- a board with valid names passes their test
 pub names_pass : (board : Board) → HasNames board → has_valid_names board ≡ true

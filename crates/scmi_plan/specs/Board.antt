@@ -1,6 +1,7 @@
 -- The board that a platform controller serves, and what a device holds.
-use Rattle.std.specs.Prelude.{ℕ, ◌≡◌, ◌<◌, ◌≤◌, ◌-◌, ◌==◌, ◌&&◌, ◌*◌, ◌%◌, ◌^◌, nat_lt, Bool, false, List, [], length, get_or, set, replicate, bit_or}
+use Rattle.std.specs.Prelude.{ℕ, ◌≡◌, ◌<◌, ◌≤◌, ◌-◌, ◌==◌, ◌&&◌, ◌*◌, ◌%◌, ◌^◌, nat_lt, Bool, false, List, [], ◌∷◌, length, get_or, set, replicate, bit_or}
 use Rattle.std.specs.Int.{bit_at}
+use Rattle.std.specs.List.{list_any}
 use Rattle.scmi_codec.specs.declared.payload.TheConstants.{PAYLOAD_WORDS}
 use Rattle.scmi_plan.specs.declared.agent_channel.AgentChannel.{AgentChannel}
 use Rattle.scmi_plan.specs.declared.agent_channel.TheConstants.{LEAST_CHANNEL_WORDS}
@@ -35,6 +36,8 @@ pub record Board : Type 0 where
   pub absent : Device
   -- which clocks take each rate as it is asked for: bit c is for clock c
   pub free : ℕ
+  -- the ids of the protocols besides the base protocol, rising
+  pub protocols : List ℕ
 
 -- the channels of an agent of whom nothing else is said: 64 words of payload, both ways, and all
 -- pending sets may be the agent's (own)
@@ -126,6 +129,18 @@ is_free board c = bit_at board.free c == 1
 -- the same board, and this clock takes each rate as it is asked for
 abbrev pub with_free : Board → ℕ → Board
 with_free board c = record board { free = mask_with board.free c }
+
+-- the protocols of a board of which nothing else is said: power domains and clocks
+abbrev pub own_protocols : List ℕ
+own_protocols = 0x11 ∷ 0x14 ∷ []
+
+-- whether a board has a protocol besides the base protocol (own)
+abbrev pub serves : Board → ℕ → Bool
+serves board id = list_any (λ one. one == id) board.protocols
+
+-- the same board with other protocols
+abbrev pub with_protocols : Board → List ℕ → Board
+with_protocols board ids = record board { protocols = ids }
 
 -- no device is denied to any agent
 abbrev pub nothing_denied : Denied

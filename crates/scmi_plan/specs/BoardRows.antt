@@ -2,12 +2,13 @@
 use Rattle.std.specs.Prelude.{◌≡◌, true, replicate}
 use Rattle.std.specs.List.{All}
 use Rattle.scmi_codec.specs.Name.{IsName}
-use Rattle.scmi_plan.specs.Board.{Board, nothing_denied, nothing_held, whole_channel}
+use Rattle.scmi_plan.specs.Board.{Board, nothing_denied, nothing_held, own_protocols, whole_channel}
 use Rattle.scmi_plan.specs.PlanError.{has_valid_counts}
 use Rattle.scmi_plan.specs.declared.board_rows.BoardRows.TheInside.{Inside}
 use Rattle.scmi_plan.specs.declared.limits.TheConstants.{AGENTS}
 
--- the board of rows: channels are whole, nothing is kept or denied, all is there, and no clock is free
+-- the board of rows: channels are whole, nothing is kept or denied, all is there, no clock is free, and its protocols are
+-- power domains and clocks
 abbrev pub board_of_rows : Inside → Board
 board_of_rows rows =
     record {
@@ -24,6 +25,7 @@ board_of_rows rows =
       denied = nothing_denied;
       absent = nothing_held;
       free = 0;
+      protocols = own_protocols;
     }
 
 -- each name of a board is one

@@ -4,5 +4,6 @@ pub mod Agent
 pub mod Board
 pub mod RawPlan
 pub mod PlanError
+pub mod Protocols
 pub mod BoardRows
 pub mod Plan

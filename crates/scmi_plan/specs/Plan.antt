@@ -3,6 +3,7 @@ use Rattle.std.specs.Prelude.{ℕ, ◌<◌, ◌≤◌, ◌^◌, ◌≡◌, List,
 use Rattle.std.specs.List.{All}
 use Rattle.scmi_codec.specs.Name.{IsName}
 use Rattle.scmi_plan.specs.Board.{Board, IsChannel, AreHolders, domain_at, clock_at, device_at}
+use Rattle.scmi_plan.specs.Protocols.{AreProtocols}
 use Rattle.scmi_plan.specs.Rates.{HasValidRates, IsSupported}
 use Rattle.scmi_plan.specs.declared.limits.TheConstants.{AGENTS, DOMAINS, CLOCKS, DEVICES}
 use Rattle.scmi_plan.specs.declared.device.Device.{Device}
@@ -27,6 +28,7 @@ board_of p =
       denied = p.denied;
       absent = p.absent;
       free = p.free;
+      protocols = p.protocols.items;
     }
 
 -- a board that keeps the limits and rules of the profile (own)
@@ -49,6 +51,7 @@ pub record IsValid (board : Board) : Type 0 where
   pub trusted_agent : board.trusted ≤ length board.agents
   pub channels : length board.channels ≡ AGENTS
   pub valid_channels : All IsChannel board.channels
+  pub protocols : AreProtocols board.protocols
 
 -- one mask for each of the first `count` domains or clocks: the devices that hold it
 pub record AreMasks (devices : List Device) (named : ℕ → Resource) (count : ℕ) (masks : List ℕ) : Type 0 where

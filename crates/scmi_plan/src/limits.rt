@@ -12,6 +12,9 @@ pub const CLOCKS: usize = 32;
 /// The most devices of a board (own).
 pub const DEVICES: usize = 32;
 
+/// The most protocols of a board besides the base protocol (own).
+pub const PROTOCOLS: usize = 16;
+
 /// The most rates of a list (own).
 pub const RATES: usize = 64;
 

@@ -1,12 +1,13 @@
 //! A valid board.
-ghost use Rattle.std.specs.Prelude.{◌≡◌, ◌≢◌, ◌↔◌, ◌<◌, ◌≤◌, ◌-◌, ◌^◌, ◌⊎◌, length, get_or, [], None, Some, Ok, Err, IfOk, IfErr, OnOk, OnErr, IsOkUnless, IsErrOf};
+ghost use Rattle.std.specs.Prelude.{◌≡◌, ◌≢◌, ◌↔◌, ◌<◌, ◌≤◌, ◌-◌, ◌^◌, ◌⊎◌, false, length, get_or, [], None, Some, Ok, Err, IfOk, IfErr, OnOk, OnErr, IsOkUnless, IsErrOf};
 ghost use Rattle.scmi_codec.specs.declared.payload.TheConstants.{PAYLOAD_WORDS};
 ghost use Rattle.scmi_plan.specs.Agent.{IsAgent, IsNoAgent};
 ghost use Rattle.scmi_plan.specs.declared.agent_channel.TheConstants.{LEAST_CHANNEL_WORDS};
-ghost use Rattle.scmi_plan.specs.declared.limits.TheConstants.{PENDING_SETS};
-ghost use Rattle.scmi_plan.specs.Board.{AreHolders, IsChannel, channel_of, with_channel, holds, is_absent, is_free, is_kept, IsOnBoard, IsPossible, domain_at, clock_at, device_at, with_absent, with_denied, with_free, with_kept};
+ghost use Rattle.scmi_plan.specs.declared.limits.TheConstants.{PENDING_SETS, PROTOCOLS};
+ghost use Rattle.scmi_plan.specs.Board.{AreHolders, IsChannel, serves, with_protocols, channel_of, with_channel, holds, is_absent, is_free, is_kept, IsOnBoard, IsPossible, domain_at, clock_at, device_at, with_absent, with_denied, with_free, with_kept};
 ghost use Rattle.scmi_plan.specs.Plan.{IsValid};
-ghost use Rattle.scmi_plan.specs.PlanError.{first_fault};
+ghost use Rattle.scmi_plan.specs.PlanError.{first_fault, rises};
+ghost use Rattle.scmi_plan.specs.Protocols.{AreProtocols};
 ghost use Rattle.scmi_plan.specs.RawPlan.{asked_board};
 ghost use Rattle.scmi_plan.specs.Rates.{HasValidRates};
 ghost use Rattle.scmi_plan.specs.declared.plan_error.PlanError.TheVariants.{Memory};
@@ -21,16 +22,21 @@ use crate::device::Device;
 use crate::domain::Domain;
 use crate::fault::{first_fault, is_within};
 use crate::holders::{fill_clock_holders, fill_domain_holders};
-use crate::limits::{AGENTS, CLOCKS, DOMAINS, PENDING_SETS};
+use crate::limits::{AGENTS, CLOCKS, DOMAINS, PENDING_SETS, PROTOCOLS};
 use crate::mask::with_bit;
 use crate::not_on_board::NotOnBoard;
 use crate::plan_error::PlanError;
+use crate::protocols_error::{ProtocolsError, check_protocols};
 use crate::raw_plan::RawPlan;
 use crate::resource::Resource;
 use crate::scope::Scope;
-use scmi_codec::{Name, PAYLOAD_WORDS};
+use arrayvec::ArrayVec;
+use scmi_codec::{CLOCK_PROTOCOL, Name, PAYLOAD_WORDS, POWER_PROTOCOL};
 use std::alloc::Global;
 use std::marker::Model;
+
+/// The protocols of a board of which nothing else is said: power domains and clocks.
+const OWN_PROTOCOLS: [u8; 2] = [POWER_PROTOCOL, CLOCK_PROTOCOL];
 
 /// A board that keeps the limits and rules of the profile. Bit d of a mask of holders is for device d.
 #[derive(Debug, Drop)]
@@ -48,6 +54,7 @@ pub struct Plan {
     denied: Denied,
     absent: Device,
     free: u32,
+    protocols: ArrayVec<u8, PROTOCOLS>,
     domain_holders: [u32; DOMAINS],
     clock_holders: [u32; CLOCKS],
 }
@@ -115,6 +122,8 @@ impl Plan {
         fill_domain_holders(&mut domain_holders, &rows.devices);
         let mut clock_holders = [0; CLOCKS];
         fill_clock_holders(&mut clock_holders, &rows.devices);
+        let mut protocols = ArrayVec::new();
+        let _ = protocols.try_extend_from_slice(&OWN_PROTOCOLS);
         Plan {
             vendor: rows.vendor,
             sub_vendor: rows.sub_vendor,
@@ -129,6 +138,7 @@ impl Plan {
             denied: Denied::nothing(),
             absent: Device::nothing(),
             free: 0,
+            protocols,
             domain_holders,
             clock_holders,
         }
@@ -329,6 +339,40 @@ impl Plan {
         ensures { result ≡ is_free self.now clock }
     {
         (self.free >> clock) & 1 == 1
+    }
+
+    /// Sets the ids of the protocols besides the base protocol (own): a board may lack power domains
+    /// (0x11) or clocks (0x14), and have protocols of its firmware. `Count` for more than 16, then
+    /// `Order` if they do not rise, then `Base` for one below 0x11; nothing changed then. It takes no
+    /// memory.
+    pub fn set_protocols(&mut self, ids: &[u8]) -> Result<(), ProtocolsError>
+        ensures ok { OnOk result (self.new ≡ with_protocols self.old ids.now) }
+        ensures accepted { (result ≡ Ok tt) ↔ AreProtocols ids.now }
+        ensures count { (result ≡ Err ProtocolsError.Count) ↔ (PROTOCOLS < length ids.now) }
+        ensures order { (result ≡ Err ProtocolsError.Order)
+            ↔ ((length ids.now ≤ PROTOCOLS) × (rises ids.now ≡ false)) }
+        ensures err { OnErr result (self.new ≡ self.old) }
+    {
+        check_protocols(ids)?;
+        self.protocols.clear();
+        let _ = self.protocols.try_extend_from_slice(ids);
+        Ok(())
+    }
+
+    /// The ids of the protocols besides the base protocol, rising.
+    pub fn protocols(&self) -> &[u8]
+        ensures row { result.now ≡ self.now.protocols }
+        ensures valid { AreProtocols result.now }
+    {
+        self.protocols.as_slice()
+    }
+
+    /// Whether the board has a protocol besides the base protocol.
+    #[inline(always)]
+    pub fn serves(&self, protocol: u8) -> bool
+        ensures { result ≡ serves self.now protocol }
+    {
+        self.protocols().contains(&protocol)
     }
 
     /// The number of power domains, at most 32. They are numbered from 0.

@@ -1,6 +1,6 @@
 //! What the lines behind a board's rows say of an agent, a domain or a clock.
 
-use scmi_board::BoardLine;
+use scmi_board::{BoardLine, ids_of};
 use scmi_plan::{AgentChannel, Resource, Scope, WHOLE_CHANNEL};
 
 /// The channels of an agent, by the line that contains them; whole if none does.
@@ -27,6 +27,17 @@ pub(crate) fn denied_to(lines: &[BoardLine], agent: u32, scope: Scope) -> u32 {
         }
     }
     devices
+}
+
+/// The ids of the board's protocols, by the last line that contains them.
+pub(crate) fn protocols_of(lines: &[BoardLine]) -> Option<&[u8]> {
+    let mut found = None;
+    for line in lines {
+        if let BoardLine::Protocols(row) = line {
+            found = Some(ids_of(row));
+        }
+    }
+    found
 }
 
 /// Whether no agent may switch a domain or clock off.

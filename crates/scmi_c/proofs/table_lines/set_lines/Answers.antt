@@ -3,7 +3,7 @@ use Rattle.std.specs.List.{All}
 use Rattle.std.proofs.lemmas.List.{length-map}
 use Rattle.scmi_plan.specs.Board.{Board}
 use Rattle.scmi_c.specs.Tables.{agent_lines, clock_in, device_in, domain_in, domain_lines, is_said_row, lines_from, tables_of}
-use Rattle.scmi_c.proofs.TableLemmas.{agents_said, rows_said}
+use Rattle.scmi_c.proofs.TableLemmas.{agents_said, heading_formed, rows_said}
 use Rattle.scmi_c.proofs.table_lines.set_lines.Goals as goal
 
 pub set_agents-requires-clause-rows : goal.set_agents-requires-clause-rows
@@ -28,3 +28,6 @@ set_clocks-requires c =
     let clocks : length c.args.plan.now.clocks ≡ length t.clocks =
     ap (λ (b : Board). length b.clocks) c.requires.board ∙ length-map t.clocks (clock_in t.rates) in
     record { clocks = sym (kept.clocks ∙ agents.clocks ∙ clocks) }
+
+pub set_heading-requires : goal.set_heading-requires
+set_heading-requires c = heading_formed (tables_of c.args.tables.now) c.requires.formed

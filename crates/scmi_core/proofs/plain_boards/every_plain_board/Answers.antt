@@ -1,4 +1,4 @@
-use Rattle.scmi_core.proofs.PlainBoards.{allows, configures, finds_clocks, finds_domains, resets, rounds, sets, shares}
+use Rattle.scmi_core.proofs.PlainBoards.{allows, configures, finds_clocks, finds_domains, lists, reads, resets, rounds, sets, shares}
 use Rattle.scmi_core.proofs.plain_boards.every_plain_board.Goals as goal
 
 pub returns : goal.returns
@@ -10,5 +10,7 @@ returns c = record {
   finds_domains = finds_domains;
   finds_clocks = finds_clocks;
   rounds = rounds;
+  reads = reads;
+  lists = lists;
   shares = shares;
 }

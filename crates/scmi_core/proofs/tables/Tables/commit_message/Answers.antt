@@ -1,7 +1,7 @@
 use Rattle.std.proofs.Common.{◌<◌, length, Some, refl, sym, ap, ◌∙◌, arith}
-use Rattle.scmi_codec.specs.Command.{command_of}
 use Rattle.scmi_codec.specs.declared.frame.Answer.TheVariants.{Reply}
 use Rattle.scmi_plan.specs.declared.effect.Effect.TheVariants as effect
+use Rattle.scmi_core.specs.ReadCommand.{command_on}
 use Rattle.scmi_core.specs.Outbox.{message_with}
 use Rattle.scmi_core.specs.Tables.{situation_in}
 use Rattle.scmi_core.proofs.Commits.{answer-fits, effect-fits, state-set, rate-set, config-set, state-committed, rate-committed, enabled-committed}
@@ -10,7 +10,7 @@ use Rattle.scmi_core.proofs.tables.Tables.commit_message.Goals as goal
 pub complete-differs-requires : goal.complete-differs-requires
 complete-differs-requires c =
     let m = c.args.message.now in
-    let set = state-set c.args.plan.now c.args.agent m.header (situation_in c.args.agent c.args.self.now) (command_of m) c.in-State.domain c.in-State.state
+    let set = state-set c.args.plan.now c.args.agent m.header (situation_in c.args.agent c.args.self.now) (command_on c.args.plan.now m) c.in-State.domain c.in-State.state
     (effect-fits c.args.plan.now c.args.agent m (situation_in c.args.agent c.args.self.now) (effect.State c.in-State.domain c.in-State.state) (c.requires.effect ∙ ap Some c.in-State.is)).1 in
     let known : c.in-State.domain < length c.args.plan.now.domains = set.known in
     let few = c.requires.valid.few_domains in
@@ -19,7 +19,7 @@ complete-differs-requires c =
 pub announce-requires-clause-domain : goal.announce-requires-clause-domain
 announce-requires-clause-domain c =
     let m = c.args.message.now in
-    let set = state-set c.args.plan.now c.args.agent m.header (situation_in c.args.agent c.args.self.now) (command_of m) c.in-State.domain c.in-State.state
+    let set = state-set c.args.plan.now c.args.agent m.header (situation_in c.args.agent c.args.self.now) (command_on c.args.plan.now m) c.in-State.domain c.in-State.state
     (effect-fits c.args.plan.now c.args.agent m (situation_in c.args.agent c.args.self.now) (effect.State c.in-State.domain c.in-State.state) (c.requires.effect ∙ ap Some c.in-State.is)).1 in
     let known : c.in-State.domain < length c.args.plan.now.domains = set.known in
     let few = c.requires.valid.few_domains in
@@ -28,7 +28,7 @@ announce-requires-clause-domain c =
 pub complete-requires : goal.complete-requires
 complete-requires c =
     let m = c.args.message.now in
-    let set = rate-set c.args.plan.now c.args.agent m.header (situation_in c.args.agent c.args.self.now) (command_of m) c.in-Rate.clock c.in-Rate.rate
+    let set = rate-set c.args.plan.now c.args.agent m.header (situation_in c.args.agent c.args.self.now) (command_on c.args.plan.now m) c.in-Rate.clock c.in-Rate.rate
     (effect-fits c.args.plan.now c.args.agent m (situation_in c.args.agent c.args.self.now) (effect.Rate c.in-Rate.clock c.in-Rate.rate) (c.requires.effect ∙ ap Some c.in-Rate.is)).1 in
     let known : c.in-Rate.clock < length c.args.plan.now.clocks = set.known in
     let few = c.requires.valid.few_clocks in
@@ -37,7 +37,7 @@ complete-requires c =
 pub set_enabled-requires : goal.set_enabled-requires
 set_enabled-requires c =
     let m = c.args.message.now in
-    let set = config-set c.args.plan.now c.args.agent m.header (situation_in c.args.agent c.args.self.now) (command_of m) c.in-Enabled.clock c.in-Enabled.enabled
+    let set = config-set c.args.plan.now c.args.agent m.header (situation_in c.args.agent c.args.self.now) (command_on c.args.plan.now m) c.in-Enabled.clock c.in-Enabled.enabled
     (effect-fits c.args.plan.now c.args.agent m (situation_in c.args.agent c.args.self.now) (effect.Enabled c.in-Enabled.clock c.in-Enabled.enabled) (c.requires.effect ∙ ap Some c.in-Enabled.is)).1 in
     let known : c.in-Enabled.clock < length c.args.plan.now.clocks = set.known in
     let few = c.requires.valid.few_clocks in
@@ -48,7 +48,7 @@ returns-in-State-clause-answer c =
     let m = c.args.message.now in
     let s = situation_in c.args.agent c.args.self.now in
     let fit = effect-fits c.args.plan.now c.args.agent m s (effect.State c.in-State.domain c.in-State.state) (c.requires.effect ∙ ap Some c.in-State.is) in
-    let set = state-set c.args.plan.now c.args.agent m.header s (command_of m) c.in-State.domain c.in-State.state fit.1 in
+    let set = state-set c.args.plan.now c.args.agent m.header s (command_on c.args.plan.now m) c.in-State.domain c.in-State.state fit.1 in
     ap (λ words. Reply (message_with m.header words)) (c.set_payload.ensures ∙ sym set.reply) ∙ sym (answer-fits c.args.plan.now c.args.agent m s fit.0)
 
 pub returns-in-State-clause-stepped : goal.returns-in-State-clause-stepped
@@ -65,7 +65,7 @@ returns-in-Rate-clause-answer c =
     let m = c.args.message.now in
     let s = situation_in c.args.agent c.args.self.now in
     let fit = effect-fits c.args.plan.now c.args.agent m s (effect.Rate c.in-Rate.clock c.in-Rate.rate) (c.requires.effect ∙ ap Some c.in-Rate.is) in
-    let set = rate-set c.args.plan.now c.args.agent m.header s (command_of m) c.in-Rate.clock c.in-Rate.rate fit.1 in
+    let set = rate-set c.args.plan.now c.args.agent m.header s (command_on c.args.plan.now m) c.in-Rate.clock c.in-Rate.rate fit.1 in
     ap (λ words. Reply (message_with m.header words)) (c.set_payload.ensures ∙ sym set.reply) ∙ sym (answer-fits c.args.plan.now c.args.agent m s fit.0)
 
 pub returns-in-Rate-clause-stepped : goal.returns-in-Rate-clause-stepped
@@ -80,7 +80,7 @@ returns-in-Enabled-clause-answer c =
     let m = c.args.message.now in
     let s = situation_in c.args.agent c.args.self.now in
     let fit = effect-fits c.args.plan.now c.args.agent m s (effect.Enabled c.in-Enabled.clock c.in-Enabled.enabled) (c.requires.effect ∙ ap Some c.in-Enabled.is) in
-    let set = config-set c.args.plan.now c.args.agent m.header s (command_of m) c.in-Enabled.clock c.in-Enabled.enabled fit.1 in
+    let set = config-set c.args.plan.now c.args.agent m.header s (command_on c.args.plan.now m) c.in-Enabled.clock c.in-Enabled.enabled fit.1 in
     ap (λ words. Reply (message_with m.header words)) (c.set_payload.ensures ∙ sym set.reply) ∙ sym (answer-fits c.args.plan.now c.args.agent m s fit.0)
 
 pub returns-in-Enabled-clause-stepped : goal.returns-in-Enabled-clause-stepped
