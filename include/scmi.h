@@ -107,6 +107,7 @@ enum {
     SCMI_RULE = 16,       /* + N, from 1 to 5: the first rule that the board breaks */
     SCMI_NO_STATE = 32,   /* of scmi_domain_is: the state is neither 0 ON nor 0x40000000 OFF */
     SCMI_NO_RATE = 33,    /* of scmi_commit_rate: the command is to give no clock a rate */
+    SCMI_OTHER = 34,      /* of scmi_ask: a command of a protocol of the board that the program answers (scmi_reply) */
     SCMI_LINE = 256       /* + L: line L of the board's text, from 1, has another form, or follows `end` */
 };
 
@@ -317,6 +318,15 @@ uint32_t scmi_ask(scmi_platform *SCMI_ALONE platform, uint32_t agent, uint8_t ar
                   scmi_effect *SCMI_ALONE effect);
 
 /*
+ * Answers the command in an area of `bytes` bytes with these `count` payload words, and marks the channel free; the
+ * header stays. It is for the commands of which scmi_ask gives SCMI_OTHER, after all its other numbers: those of a
+ * protocol that the board says it has, and the library has not. The platform is as before, so other agents' commands
+ * may come first. scmi_answer answers such a command NOT_SUPPORTED. SCMI_DONE, SCMI_NO_FRAME (the channel is free) or
+ * SCMI_WRONG_SIZE (`bytes` is the size of no channel, or has not room for the words).
+ */
+uint32_t scmi_reply(uint8_t *SCMI_ALONE area, size_t bytes, const uint32_t *SCMI_ALONE words, size_t count);
+
+/*
  * The hardware has made what scmi_ask gave: the command is executed as it was kept, and its answer written into the
  * area whole, status, length, header and payload. Nothing of the area is read, so what an agent does to it after
  * scmi_ask changes neither what is executed nor the answer. SCMI_DONE, SCMI_NO_PLATFORM, SCMI_NOTHING (no command was
@@ -516,7 +526,7 @@ SCMI_HOLDS(sizeof(scmi_board_device) == 8, "the size of a device's row");
 typedef struct scmi_library {
     uint32_t area_bytes, payload_words;
     uint32_t done, nothing, memory, no_agent, not_free, no_platform, in_use, no_history, no_frame;
-    uint32_t wrong_size, no_resource, asked, effect, table, wrong_status, rule, no_state, no_rate, line;
+    uint32_t wrong_size, no_resource, asked, effect, table, wrong_status, rule, no_state, no_rate, other, line;
     uint32_t effect_state, effect_rate, effect_enabled;
 } scmi_library;
 
@@ -557,7 +567,7 @@ static inline int scmi_header_fits(void)
            of.wrong_size == SCMI_WRONG_SIZE && of.no_resource == SCMI_NO_RESOURCE && of.asked == SCMI_ASKED &&
            of.effect == SCMI_EFFECT && of.table == SCMI_TABLE && of.wrong_status == SCMI_WRONG_STATUS &&
            of.rule == SCMI_RULE && of.no_state == SCMI_NO_STATE && of.no_rate == SCMI_NO_RATE &&
-           of.line == SCMI_LINE && of.effect_state == SCMI_EFFECT_STATE &&
+           of.other == SCMI_OTHER && of.line == SCMI_LINE && of.effect_state == SCMI_EFFECT_STATE &&
            of.effect_rate == SCMI_EFFECT_RATE && of.effect_enabled == SCMI_EFFECT_ENABLED &&
            scmi_version() == scmi_header_version();
 }

@@ -31,6 +31,7 @@ int main(void)
     FITS("SCMI_RULE", of.rule);
     FITS("SCMI_NO_STATE", of.no_state);
     FITS("SCMI_NO_RATE", of.no_rate);
+    FITS("SCMI_OTHER", of.other);
     FITS("SCMI_LINE", of.line);
     FITS("SCMI_EFFECT_STATE", of.effect_state);
     FITS("SCMI_EFFECT_RATE", of.effect_rate);

@@ -82,3 +82,9 @@ with scmi.Platform(BOARD.replace("end", "channel 1 156\nchannel 2 60 one-way\nen
         print("to 1", f"0x{header:08x}", *(f"0x{word:08x}" for word in words))
     refused(platform.answer, 1, bytearray(scmi.AREA_BYTES))
     refused(platform.domain_state, 1)
+
+with scmi.Platform(BOARD.replace("end", "protocols 0x11,0x14,0x80\nend")) as platform:
+    own = scmi.command(scmi.header_of(0x80, 0x3, token=5), 7)
+    refused(platform.ask, 1, own)
+    print("replied", platform.reply(own, 0, 8), scmi.words_of(own), hex(scmi.word(own, scmi.AREA_HEADER)))
+    print("again", platform.reply(own, 0))

@@ -9,8 +9,8 @@
     for header, words in platform.messages(1):       # delayed responses and notifications
         ..
 
-The calls of scmi.h have their names here: answer, ask, commit, commit_rate, fail, refuse, advance, ask_advance,
-fail_advance, refuse_advance, next, sent, restart, domain_is, clock_is, channel, domain_state, clock_rate,
+The calls of scmi.h have their names here: answer, ask, commit, commit_rate, fail, refuse, reply, advance,
+ask_advance, fail_advance, refuse_advance, next, sent, restart, domain_is, clock_is, channel, domain_state, clock_rate,
 clock_enabled, pending, outbox_length, history_length, version.
 
 An area is a bytearray of the size of its agent's channel, AREA_BYTES bytes unless the board sets another size. It is
@@ -34,7 +34,7 @@ __version__ = "1.0.0"
 
 DONE, NOTHING, MEMORY, NO_AGENT, NOT_FREE, NO_PLATFORM, IN_USE, NO_HISTORY, NO_FRAME = range(9)
 WRONG_SIZE, NO_RESOURCE, ASKED, EFFECT, TABLE, WRONG_STATUS = 10, 11, 12, 13, 14, 15
-RULE, NO_STATE, NO_RATE, LINE = 16, 32, 33, 256
+RULE, NO_STATE, NO_RATE, OTHER, LINE = 16, 32, 33, 34, 256
 STATE, RATE, ENABLED = 1, 2, 3
 AREA_BYTES, PAYLOAD_WORDS = 284, 64
 AREA_STATUS, AREA_FLAGS, AREA_LENGTH, AREA_HEADER, AREA_PAYLOAD = 0x04, 0x10, 0x14, 0x18, 0x1C
@@ -60,7 +60,8 @@ class Refused(Exception):
              "the area has not the size of the channel", "the board has no such domain or clock",
              "a command was asked about, and is neither committed nor failed", "number 13", "number 14",
              "the status does not say why hardware refused")
-    LATER_NAMES = {NO_STATE: "the state is neither on nor off", NO_RATE: "the command is to give no clock a rate"}
+    LATER_NAMES = {NO_STATE: "the state is neither on nor off", NO_RATE: "the command is to give no clock a rate",
+                   OTHER: "the command is for the firmware to answer"}
 
     def __init__(self, number):
         self.number = number
@@ -96,8 +97,8 @@ class _Numbers(ctypes.Structure):
         area_bytes=AREA_BYTES, payload_words=PAYLOAD_WORDS, done=DONE, nothing=NOTHING, memory=MEMORY,
         no_agent=NO_AGENT, not_free=NOT_FREE, no_platform=NO_PLATFORM, in_use=IN_USE, no_history=NO_HISTORY,
         no_frame=NO_FRAME, wrong_size=WRONG_SIZE, no_resource=NO_RESOURCE, asked=ASKED, effect=EFFECT, table=TABLE,
-        wrong_status=WRONG_STATUS, rule=RULE, no_state=NO_STATE, no_rate=NO_RATE, line=LINE, effect_state=STATE,
-        effect_rate=RATE, effect_enabled=ENABLED)
+        wrong_status=WRONG_STATUS, rule=RULE, no_state=NO_STATE, no_rate=NO_RATE, other=OTHER, line=LINE,
+        effect_state=STATE, effect_rate=RATE, effect_enabled=ENABLED)
     _fields_ = [(name, ctypes.c_uint32) for name in WANTED]
 
 
@@ -132,6 +133,7 @@ def load(file=None):
         call = getattr(library, name)
         call.argtypes, call.restype = [handle, *arguments], number
     library.scmi_platform_free.restype = None
+    library.scmi_reply.argtypes, library.scmi_reply.restype = [*area, ctypes.c_void_p, ctypes.c_size_t], number
     library.scmi_version.argtypes, library.scmi_version.restype = [], number
     library.scmi_numbers.argtypes, library.scmi_numbers.restype = [ctypes.POINTER(_Numbers)], None
     numbers = _Numbers()
@@ -231,6 +233,11 @@ class Platform:
 
     def refuse(self, area, status):
         return self._over(self._library.scmi_refuse_in, area, more=(-STATUSES.index(status),))
+
+    def reply(self, area, *words):
+        """Answers a command of a protocol of the board that is not the library's: ask raised Refused, number OTHER."""
+        held = (ctypes.c_uint8 * len(area)).from_buffer(area)
+        return self._give(self._library.scmi_reply(held, len(area), (ctypes.c_uint32 * len(words))(*words), len(words)))
 
     def advance(self):
         return self._give(self._library.scmi_advance(self._handle))

@@ -2,7 +2,7 @@
 use Rattle.std.proofs.Common.{rules, ◌≡◌, ◌↔◌, ℕ, Option, Some, Result, Err, IsSomeAnd, sym, subst, ap, ◌∙◌}
 use Rattle.std.specs.Prelude.{⊤}
 use Rattle.scmi_c.specs.declared.refusal.Refusal.{Refusal}
-use Rattle.scmi_c.specs.declared.refusal.Refusal.TheVariants.{Nothing, NoAgent, NotFree, NoFrame, WrongSize, WrongStatus, NoResource, NoState, NoRate}
+use Rattle.scmi_c.specs.declared.refusal.Refusal.TheVariants.{Nothing, NoAgent, NotFree, NoFrame, WrongSize, WrongStatus, NoResource, NoState, NoRate, Other}
 use Rattle.scmi_c.specs.Kept.{IsUnasked, Kept}
 use Rattle.scmi_c.specs.Refusal.{code_of}
 use Rattle.scmi_c.specs.Standing.{Held, LacksAgent}
@@ -18,6 +18,7 @@ agent-code WrongStatus = search rules
 agent-code NoResource = search rules
 agent-code NoState = search rules
 agent-code NoRate = search rules
+agent-code Other = search rules
 
 same-refusal : {A : Type 0} (r : Result A Refusal) (a b : Refusal) → r ≡ Err a → r ≡ Err b → a ≡ b
 same-refusal r a b one two = cc

@@ -10,5 +10,6 @@ pub mod Board
 pub mod Tables
 pub mod Effect
 pub mod Numbers
+pub mod Other
 pub mod Plain
 pub mod Driven

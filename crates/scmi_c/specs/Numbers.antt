@@ -26,6 +26,7 @@ numbers_of_library =
       rule = 16;
       no_state = 32;
       no_rate = 33;
+      other = 34;
       line = 256;
       effect_state = 1;
       effect_rate = 2;

@@ -14,6 +14,7 @@ ghost use Rattle.scmi_c.specs.Standing.{LacksAgent, StandsAt, board_of};
 ghost use Rattle.scmi_c.specs.Calls.{HasAnswered, HasPosted, HasNext, IsAskedAbout, LacksNext};
 ghost use Rattle.scmi_c.specs.Channel.{IsAreaOf};
 ghost use Rattle.scmi_c.specs.Driven.{Drives, IsUnsaid};
+ghost use Rattle.scmi_c.specs.Other.{IsOther};
 
 use crate::desk::Exchange;
 use crate::held::Held;
@@ -89,7 +90,8 @@ fn put_answer(area: &mut [u8], answered: Answered, payload: &Payload)
 
 /// Executes the frame in an agent's area and answers it in place, if it changes no hardware. Else
 /// gives what it is to change, and keeps the frame. `NoFrame` if the channel is free; else
-/// `NoAgent` if the board lacks the agent. Then nothing changed.
+/// `NoAgent` if the board lacks the agent, and `Other` for a command that the firmware answers. Then
+/// nothing changed.
 #[tactic(auto, using(crate::proofs::Driving::drives_none))]
 #[inline(always)]
 pub fn ask(
@@ -113,7 +115,10 @@ pub fn ask(
     ensures no_frame { (result ≡ Err Refusal.NoFrame) ↔ (channel_waiting area.old ≡ None) }
     ensures no_agent { (result ≡ Err Refusal.NoAgent) ↔
         ((channel_waiting area.old ≢ None) × LacksAgent agent held.old) }
-    ensures errors { IfErr result (λ e. (e ≡ Refusal.NoFrame) ⊎ (e ≡ Refusal.NoAgent)) }
+    ensures other { (result ≡ Err Refusal.Other) ↔ IsSomeAnd (channel_waiting area.old) (λ frame.
+        IsOther agent frame held.old) }
+    ensures errors { IfErr result (λ e.
+        (e ≡ Refusal.NoFrame) ⊎ (e ≡ Refusal.NoAgent) ⊎ (e ≡ Refusal.Other)) }
     ensures err { OnErr result (held.new ≡ held.old) }
     ensures kept { OnErr result (area.new ≡ area.old) }
 {

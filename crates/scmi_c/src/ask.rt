@@ -8,9 +8,10 @@ ghost use Rattle.scmi_core.specs.declared.event.Event.TheVariants.{Command as Ca
 ghost use Rattle.scmi_c.specs.Driven.{Drives};
 ghost use Rattle.scmi_c.specs.Effect.{numbers_of};
 ghost use Rattle.scmi_c.specs.Kept.{HasAsked, IsAsked, IsUnasked};
+ghost use Rattle.scmi_c.specs.Other.{IsOther};
 ghost use Rattle.scmi_c.specs.Standing.{LacksAgent, StandsAt, board_of};
 ghost use Rattle.scmi_c.specs.Calls.{ChangesNothing, HasAnswered};
-ghost use Rattle.scmi_c.specs.declared.code.TheConstants.{ASKED, DONE, EFFECT, NO_AGENT, NO_PLATFORM, NO_FRAME};
+ghost use Rattle.scmi_c.specs.declared.code.TheConstants.{ASKED, DONE, EFFECT, NO_AGENT, NO_PLATFORM, NO_FRAME, OTHER};
 
 use crate::area::ask;
 use crate::code::{DONE, EFFECT, code};
@@ -24,7 +25,8 @@ use std::alloc::Global;
 /// changes no hardware: `DONE`. Else gives what it is to change of the hardware, and keeps the
 /// frame, until `scmi_commit` or `scmi_fail` answers it: `EFFECT`; the area and the history are as
 /// they were. `NO_PLATFORM`; `ASKED` if a command was asked about already; `NO_FRAME` if the
-/// channel is free; `NO_AGENT`. After another number than these two nothing changed.
+/// channel is free; `NO_AGENT`; `OTHER` for a command of a protocol of the board that is not the
+/// library's, which the firmware answers. After another number than these two nothing changed.
 #[tactic(auto, using(crate::proofs::Areas::whole_waits))]
 #[unsafe(no_mangle)]
 pub extern "C" fn scmi_ask(
@@ -70,8 +72,11 @@ pub extern "C" fn scmi_ask(
     ensures no_agent { (result ≡ NO_AGENT) ↔
         IsSomeAnd platform.old.value (λ p. IsUnasked p ×
         (frame_waiting area.old ≢ None) × LacksAgent agent p.held) }
+    ensures other { (result ≡ OTHER) ↔ IsSomeAnd platform.old.value (λ p. IsUnasked p ×
+        IsSomeAnd (frame_waiting area.old) (λ frame. IsOther agent frame p.held)) }
     ensures errors { (result ≡ DONE) ⊎ (result ≡ EFFECT) ⊎
-        (result ≡ NO_AGENT) ⊎ (result ≡ NO_PLATFORM) ⊎ (result ≡ NO_FRAME) ⊎ (result ≡ ASKED) }
+        (result ≡ NO_AGENT) ⊎ (result ≡ NO_PLATFORM) ⊎ (result ≡ NO_FRAME) ⊎ (result ≡ ASKED) ⊎
+        (result ≡ OTHER) }
     ensures area { result ≢ DONE → area.new ≡ area.old }
     ensures kept { result ≢ DONE → result ≢ EFFECT → platform.new.value ≡ platform.old.value }
     ensures same { result ≢ EFFECT → effect.new ≡ effect.old }

@@ -1,5 +1,5 @@
 //! Commands in areas of the size of their agent's channel are executed, or asked about.
-ghost use Rattle.std.specs.Prelude.{◌≡◌, ◌≢◌, ◌↔◌, ◌⊎◌, Some, None, IsSomeAnd, List, length, option_map};
+ghost use Rattle.std.specs.Prelude.{◌≡◌, ◌≢◌, ◌↔◌, ◌⊎◌, Some, None, IsSomeAnd, List, length, option_map, true};
 ghost use Rattle.scmi_codec.specs.ChannelArea.{channel_waiting};
 ghost use Rattle.scmi_core.specs.Effect.{effect_after};
 ghost use Rattle.scmi_core.specs.declared.event.Event.{Event};
@@ -9,8 +9,9 @@ ghost use Rattle.scmi_c.specs.Effect.{numbers_of};
 ghost use Rattle.scmi_c.specs.Kept.{HasAsked, IsAsked, IsUnasked};
 ghost use Rattle.scmi_c.specs.Standing.{LacksAgent, StandsAt, board_of};
 ghost use Rattle.scmi_c.specs.Calls.{ChangesNothing, HasAnswered};
-ghost use Rattle.scmi_c.specs.Channel.{HasAnotherSize, IsFreeOf};
-ghost use Rattle.scmi_c.specs.declared.code.TheConstants.{ASKED, DONE, EFFECT, NO_AGENT, NO_PLATFORM, NO_FRAME, WRONG_SIZE};
+ghost use Rattle.scmi_c.specs.Channel.{HasAnotherSize, HasSize, IsFreeOf};
+ghost use Rattle.scmi_c.specs.Other.{is_other};
+ghost use Rattle.scmi_c.specs.declared.code.TheConstants.{ASKED, DONE, EFFECT, NO_AGENT, NO_PLATFORM, NO_FRAME, OTHER, WRONG_SIZE};
 
 use crate::area::ask;
 use crate::code::{DONE, EFFECT, code};
@@ -66,9 +67,13 @@ pub extern "C" fn scmi_ask_in(
         IsUnasked p × HasAnotherSize agent (length area.old) p.held) }
     ensures no_frame { (result ≡ NO_FRAME) ↔
         IsSomeAnd platform.old.value (λ p. IsUnasked p × IsFreeOf agent area.old p.held) }
+    ensures other { (result ≡ OTHER) ↔ IsSomeAnd platform.old.value (λ p. IsUnasked p
+        × HasSize agent (length area.old) p.held
+        × IsSomeAnd (channel_waiting area.old) (λ frame.
+        is_other (board_of p.held) frame ≡ true)) }
     ensures errors { (result ≡ DONE) ⊎ (result ≡ EFFECT) ⊎
         (result ≡ NO_AGENT) ⊎ (result ≡ NO_PLATFORM) ⊎ (result ≡ NO_FRAME) ⊎
-        (result ≡ ASKED) ⊎ (result ≡ WRONG_SIZE) }
+        (result ≡ ASKED) ⊎ (result ≡ WRONG_SIZE) ⊎ (result ≡ OTHER) }
     ensures area { result ≢ DONE → area.new ≡ area.old }
     ensures kept { result ≢ DONE → result ≢ EFFECT → platform.new.value ≡ platform.old.value }
     ensures same { result ≢ EFFECT → effect.new ≡ effect.old }

@@ -1,5 +1,5 @@
 //! Commands as the words of their messages are executed, or asked about.
-ghost use Rattle.std.specs.Prelude.{◌≡◌, ◌≢◌, ◌↔◌, ◌⊎◌, Some, None, IsSomeAnd, List, length, option_map};
+ghost use Rattle.std.specs.Prelude.{◌≡◌, ◌≢◌, ◌↔◌, ◌⊎◌, Some, None, IsSomeAnd, List, length, option_map, true};
 ghost use Rattle.scmi_core.specs.Effect.{effect_after};
 ghost use Rattle.scmi_core.specs.declared.event.Event.{Event};
 ghost use Rattle.scmi_core.specs.declared.event.Event.TheVariants.{Command as Called};
@@ -8,9 +8,10 @@ ghost use Rattle.scmi_c.specs.Channel.{bytes_of};
 ghost use Rattle.scmi_c.specs.Driven.{Drives};
 ghost use Rattle.scmi_c.specs.Effect.{numbers_of};
 ghost use Rattle.scmi_c.specs.Kept.{HasAsked, IsAsked, IsUnasked};
+ghost use Rattle.scmi_c.specs.Other.{is_other};
 ghost use Rattle.scmi_c.specs.Standing.{LacksAgent, StandsAt, board_of};
-ghost use Rattle.scmi_c.specs.Words.{HasAnsweredWords, LacksWords, frame_in};
-ghost use Rattle.scmi_c.specs.declared.code.TheConstants.{ASKED, DONE, EFFECT, NO_AGENT, NO_PLATFORM, WRONG_SIZE};
+ghost use Rattle.scmi_c.specs.Words.{FitsWords, HasAnsweredWords, LacksWords, frame_in};
+ghost use Rattle.scmi_c.specs.declared.code.TheConstants.{ASKED, DONE, EFFECT, NO_AGENT, NO_PLATFORM, OTHER, WRONG_SIZE};
 
 use crate::code::{DONE, EFFECT, code};
 use crate::desk::Desk;
@@ -22,7 +23,7 @@ use std::alloc::Global;
 /// As `scmi_ask`, of the words of a message: executes it and writes the words of the reply, as
 /// `scmi_answer_words` does, if it changes no hardware: `DONE`. Else gives what it is to change,
 /// and keeps the message, as one that was in an area of its channel's size: `EFFECT`. The errors
-/// are those of `scmi_answer_words`.
+/// are those of `scmi_answer_words`, and then `OTHER`, as of `scmi_ask`.
 #[unsafe(no_mangle)]
 pub extern "C" fn scmi_ask_words(
     alloc: Global,
@@ -65,8 +66,11 @@ pub extern "C" fn scmi_ask_words(
         IsSomeAnd platform.old.value (λ p. IsUnasked p × LacksAgent agent p.held) }
     ensures wrong_size { (result ≡ WRONG_SIZE) ↔ IsSomeAnd platform.old.value (λ p.
         IsUnasked p × LacksWords agent (length message.now) (length reply.old) p.held) }
-    ensures errors { (result ≡ DONE) ⊎ (result ≡ EFFECT) ⊎
-        (result ≡ NO_AGENT) ⊎ (result ≡ NO_PLATFORM) ⊎ (result ≡ ASKED) ⊎ (result ≡ WRONG_SIZE) }
+    ensures other { (result ≡ OTHER) ↔ IsSomeAnd platform.old.value (λ p. IsUnasked p
+        × FitsWords agent (length message.now) (length reply.old) p.held
+        × (is_other (board_of p.held) (frame_in message.now) ≡ true)) }
+    ensures errors { (result ≡ DONE) ⊎ (result ≡ EFFECT) ⊎ (result ≡ NO_AGENT) ⊎
+        (result ≡ NO_PLATFORM) ⊎ (result ≡ ASKED) ⊎ (result ≡ WRONG_SIZE) ⊎ (result ≡ OTHER) }
     ensures words { result ≢ DONE → (reply.new ≡ reply.old) × (count.new ≡ count.old) }
     ensures kept { result ≢ DONE → result ≢ EFFECT → platform.new.value ≡ platform.old.value }
     ensures same { result ≢ EFFECT → effect.new ≡ effect.old }

@@ -58,6 +58,9 @@ pub const NO_STATE: u32 = 32;
 /// The command that was asked about is to give no clock a rate.
 pub const NO_RATE: u32 = 33;
 
+/// The command is of a protocol that the firmware answers.
+pub const OTHER: u32 = 34;
+
 /// What a line's number is added to.
 pub const LINE: u32 = 256;
 
@@ -76,5 +79,6 @@ pub fn code(given: Result<(), Refusal>) -> u32
         Err(Refusal::NoResource) => NO_RESOURCE,
         Err(Refusal::NoState) => NO_STATE,
         Err(Refusal::NoRate) => NO_RATE,
+        Err(Refusal::Other) => OTHER,
     }
 }

@@ -1,6 +1,8 @@
 //! What a handle holds.
 ghost use Rattle.std.specs.Prelude.{◌≡◌, ◌≢◌, ◌<◌, ◌↔◌, ◌⊎◌, ◌++◌, ◌∷◌, [], ℕ, List, length, true, false, Some, None, IfOk, IsSomeAnd, OnOk, OnErr, IfErr, Err};
 ghost use Rattle.scmi_codec.specs.declared.frame.Answer.TheVariants.{Reply};
+ghost use Rattle.scmi_codec.specs.declared.frame.Frame.TheVariants.{Good};
+ghost use Rattle.scmi_codec.specs.declared.message.Message.{Message};
 ghost use Rattle.scmi_plan.specs.Agent.{IsAgent};
 ghost use Rattle.scmi_plan.specs.Plan.{IsValid};
 ghost use Rattle.scmi_plan.specs.declared.effect.Effect.TheVariants.{Enabled, Rate};
@@ -13,10 +15,11 @@ ghost use Rattle.scmi_core.specs.declared.event.Event.{Event};
 ghost use Rattle.scmi_core.specs.declared.event.Event.TheVariants.{Command as Called, Advance, Sent, CommandFailed, AdvanceFailed, Restarted, Reported};
 ghost use Rattle.scmi_c.specs.Calls.{HasHappened};
 ghost use Rattle.scmi_c.specs.Driven.{Drives, HappenInTurn, IsDriven, IsUnsaid};
+ghost use Rattle.scmi_c.specs.Other.{IsOther, is_other};
 ghost use Rattle.scmi_c.specs.Standing.{IsCount, IsCounted, LacksAgent, StandsAt, board_of};
 
 use crate::refusal::Refusal;
-use scmi_codec::{Fault, Frame, Message};
+use scmi_codec::{BASE_PROTOCOL, CLOCK_PROTOCOL, Fault, Frame, Header, Message, POWER_PROTOCOL};
 use scmi_core::{Answered, CoreError, Effect, Platform, Said, Saying, may_change};
 use scmi_plan::Plan;
 use std::marker::Model;
@@ -216,7 +219,8 @@ impl Held {
     }
 
     /// What an agent's command is to change of the hardware, before it is executed; `None` if it
-    /// changes nothing of it. `NoAgent` if the board lacks the agent.
+    /// changes nothing of it. `NoAgent` if the board lacks the agent; `Other` for a command of a
+    /// protocol of the board that the firmware answers.
     #[inline(always)]
     pub fn effect_of(&self, agent: u32, frame: &Frame) -> Result<Option<Effect>, Refusal>
         ensures effect { (h : List Event) → StandsAt self.now h →
@@ -225,15 +229,30 @@ impl Held {
         ensures agent { OnOk result (IsAgent (length (board_of self.now).agents) agent) }
         ensures valid { IsValid (board_of self.now) }
         ensures no_agent { (result ≡ Err Refusal.NoAgent) ↔ LacksAgent agent self.now }
-        ensures errors { IfErr result (λ e. e ≡ Refusal.NoAgent) }
+        ensures other { (result ≡ Err Refusal.Other) ↔ IsOther agent frame.now self.now }
+        ensures errors { IfErr result (λ e. (e ≡ Refusal.NoAgent) ⊎ (e ≡ Refusal.Other)) }
     {
         self.check_agent(agent)?;
+        if self.is_other(frame) {
+            return Err(Refusal::Other);
+        }
         if !may_change(frame) {
             return Ok(None);
         }
         match self.platform.effect_of(agent, frame) {
             Ok(effect) => Ok(effect),
             Err(_) => Err(Refusal::NoAgent),
+        }
+    }
+
+    /// Whether a frame is a command of a protocol of the board that the firmware answers.
+    #[inline(always)]
+    fn is_other(&self, frame: &Frame) -> bool
+        ensures { result ≡ is_other (board_of self.now) frame.now }
+    {
+        match frame {
+            Frame::Good(message) => is_other(self.platform.board(), message.header),
+            Frame::Malformed { .. } => false,
         }
     }
 
@@ -317,6 +336,18 @@ impl Held {
             Ok(())
         }
     }
+}
+
+/// Whether a message with this header is a command of a protocol of the board that the firmware
+/// answers.
+#[inline(always)]
+fn is_other(board: &Plan, header: Header) -> bool
+    ensures { (m : Message) → m.header ≡ header → result ≡ is_other board.now (Good m) }
+{
+    let protocol = header.protocol();
+    !matches!(protocol, BASE_PROTOCOL | POWER_PROTOCOL | CLOCK_PROTOCOL)
+        && header.kind() == 0
+        && board.serves(protocol)
 }
 
 /// One more event, if events are counted.

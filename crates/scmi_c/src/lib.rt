@@ -35,6 +35,7 @@ mod open;
 mod open_tables;
 mod refusal;
 mod refuse;
+mod reply;
 mod report;
 mod restart;
 mod rows;

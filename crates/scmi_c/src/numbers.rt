@@ -4,7 +4,8 @@ ghost use Rattle.scmi_c.specs.Numbers.{numbers_of_library, version_of_library};
 
 use crate::code::{
     ASKED, DONE, EFFECT, IN_USE, LINE, MEMORY, NO_AGENT, NO_FRAME, NO_HISTORY, NO_PLATFORM,
-    NO_RATE, NO_RESOURCE, NO_STATE, NOT_FREE, NOTHING, RULE, TABLE, WRONG_SIZE, WRONG_STATUS,
+    NO_RATE, NO_RESOURCE, NO_STATE, NOT_FREE, NOTHING, OTHER, RULE, TABLE, WRONG_SIZE,
+    WRONG_STATUS,
 };
 use crate::effect::{ENABLED, RATE, STATE};
 use scmi_codec::{AREA_BYTES, PAYLOAD_WORDS};
@@ -36,6 +37,7 @@ pub struct Numbers {
     pub rule: u32,
     pub no_state: u32,
     pub no_rate: u32,
+    pub other: u32,
     pub line: u32,
     pub effect_state: u32,
     pub effect_rate: u32,
@@ -68,6 +70,7 @@ pub extern "C" fn scmi_numbers(numbers: &mut Numbers)
         rule: RULE,
         no_state: NO_STATE,
         no_rate: NO_RATE,
+        other: OTHER,
         line: LINE,
         effect_state: STATE,
         effect_rate: RATE,

@@ -31,4 +31,7 @@ pub enum Refusal {
     /// The command that was asked about is to give no clock a rate.
     #[error("the command is to give no clock a rate")]
     NoRate = 10,
+    /// The command is of a protocol that the firmware answers.
+    #[error("the command is for the firmware to answer")]
+    Other = 11,
 }

@@ -1,5 +1,5 @@
 //! Messages as their words, which a platform takes and gives.
-ghost use Rattle.std.specs.Prelude.{◌≡◌, ◌≢◌, ◌↔◌, ◌+◌, ◌<◌, ◌≤◌, ◌∷◌, ◌++◌, None, List, length, drop, IfOk, IfErr, OnOk, OnErr, Ok, Err, ◌⊎◌};
+ghost use Rattle.std.specs.Prelude.{◌≡◌, ◌≢◌, ◌↔◌, ◌+◌, ◌<◌, ◌≤◌, ◌∷◌, ◌++◌, None, List, length, drop, true, IfOk, IfErr, OnOk, OnErr, Ok, Err, ◌⊎◌};
 ghost use Rattle.scmi_codec.specs.declared.payload.TheConstants.{PAYLOAD_WORDS};
 ghost use Rattle.scmi_plan.specs.Agent.{IsAgent};
 ghost use Rattle.scmi_plan.specs.Plan.{IsValid};
@@ -9,6 +9,7 @@ ghost use Rattle.scmi_core.specs.declared.event.Event.TheVariants.{Command as Ca
 ghost use Rattle.scmi_c.specs.Calls.{IsAskedAbout};
 ghost use Rattle.scmi_c.specs.Channel.{bytes_of};
 ghost use Rattle.scmi_c.specs.Driven.{Drives, IsUnsaid};
+ghost use Rattle.scmi_c.specs.Other.{is_other};
 ghost use Rattle.scmi_c.specs.Standing.{LacksAgent, StandsAt, board_of};
 ghost use Rattle.scmi_c.specs.Words.{FitsWords, HasAnsweredWords, LacksWords, count_of, frame_in, words_after};
 
@@ -68,7 +69,8 @@ pub fn answer(
 }
 
 /// Executes the words of a message, as `answer`, if they change no hardware. Else gives what they
-/// are to change, and keeps them. It is refused as `Held::check_words` says, and nothing changed.
+/// are to change, and keeps them. It is refused as `Held::check_words` says, and by `Other` for a
+/// command that the firmware answers. Then nothing changed.
 #[tactic(auto, using(crate::proofs::Driving::drives_none))]
 #[inline(always)]
 pub fn ask(
@@ -92,7 +94,11 @@ pub fn ask(
     ensures no_agent { (result ≡ Err Refusal.NoAgent) ↔ LacksAgent agent held.old }
     ensures wrong_size { (result ≡ Err Refusal.WrongSize)
         ↔ LacksWords agent (length message.now) (length reply.old) held.old }
-    ensures errors { IfErr result (λ e. (e ≡ Refusal.NoAgent) ⊎ (e ≡ Refusal.WrongSize)) }
+    ensures other { (result ≡ Err Refusal.Other)
+        ↔ (FitsWords agent (length message.now) (length reply.old) held.old
+        × (is_other (board_of held.old) (frame_in message.now) ≡ true)) }
+    ensures errors { IfErr result (λ e.
+        (e ≡ Refusal.NoAgent) ⊎ (e ≡ Refusal.WrongSize) ⊎ (e ≡ Refusal.Other)) }
     ensures err { OnErr result (held.new ≡ held.old) }
     ensures kept { OnErr result ((reply.new ≡ reply.old) × (count.new ≡ count.old)) }
 {
