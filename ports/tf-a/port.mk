@@ -4,7 +4,8 @@
 #   SCMI_PORT_DEFINES := SCMI_PORT_CLOCKS=8 ..          what the platform has, for less memory; see README.md
 #   include FOLDER/ports/tf-a/port.mk
 #
-# The headers of drivers/scmi-msg stay, for the platform's own files. SCMI_PORT_BOARD names a file that knows the board
+# The headers of drivers/scmi-msg stay, for the platform's own files, and so do its resets and sensors, if the platform
+# has them: the library has no such protocols (scmi_others.c). SCMI_PORT_BOARD names a file that knows the board
 # in place of TF-A's hooks (scmi_service_board.h). SCMI_PORT_TRACE := 1 prints each message and change.
 
 SCMI_PORT := $(dir $(lastword $(MAKEFILE_LIST)))
@@ -28,7 +29,13 @@ SCMI_PORT_BOARD += $(SCMI_PORT)scmi_trace.c
 SCMI_PORT_DEFINES += SCMI_PORT_TRACE=1
 endif
 
-BL31_SOURCES := $(filter-out drivers/scmi-msg/%.c,$(BL31_SOURCES)) \
+SCMI_PORT_KEPT := $(filter drivers/scmi-msg/reset_domain.c drivers/scmi-msg/sensor.c,$(BL31_SOURCES))
+ifneq ($(SCMI_PORT_KEPT),)
+SCMI_PORT_BOARD += $(SCMI_PORT)scmi_others.c
+PLAT_INCLUDES += -Idrivers/scmi-msg
+endif
+
+BL31_SOURCES := $(filter-out drivers/scmi-msg/%.c,$(BL31_SOURCES)) $(SCMI_PORT_KEPT) \
 	$(SCMI_PORT)scmi_service.c $(SCMI_PORT)scmi_on_stack.S $(SCMI_PORT_BOARD) $(SCMI_PORT_MEMORY)
 BL31_LIBS += $(SCMI_LIBRARY)
 $(foreach it,$(SCMI_PORT_DEFINES),\

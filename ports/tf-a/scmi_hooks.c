@@ -201,27 +201,33 @@ static bool add_clock(unsigned int agent, uint32_t id)
     return true;
 }
 
+/* Whether the library has a protocol, or TF-A's own files that the platform keeps. */
+static bool has(uint8_t protocol)
+{
+    return protocol == SCMI_PROTOCOL_ID_POWER_DOMAIN || protocol == SCMI_PROTOCOL_ID_CLOCK || scmi_service_has(protocol);
+}
+
 /*
- * The board has those of its hooks' protocols that the library has. Agents are answered NOT_SUPPORTED for the others,
- * which are said.
+ * The board has those of its hooks' protocols that are served, rising as a board lists them. Agents are answered
+ * NOT_SUPPORTED for the others, which are said.
  */
 static void add_protocols(unsigned int agent)
 {
-    const uint8_t *protocol = plat_scmi_protocol_list(agent);
-    bool has_power = false, has_clocks = false;
-    size_t at = 0;
+    const uint8_t *listed = plat_scmi_protocol_list(agent);
+    uint8_t *protocols = board.heading.protocols;
+    size_t count = 0, at;
 
-    for (; protocol != NULL && *protocol != 0; protocol++) {
-        has_power |= *protocol == SCMI_PROTOCOL_ID_POWER_DOMAIN;
-        has_clocks |= *protocol == SCMI_PROTOCOL_ID_CLOCK;
-        if (*protocol != SCMI_PROTOCOL_ID_BASE && *protocol != SCMI_PROTOCOL_ID_POWER_DOMAIN &&
-            *protocol != SCMI_PROTOCOL_ID_CLOCK)
-            ERROR("SCMI: agent %u: protocol 0x%x is not supported\n", agent, *protocol);
+    for (; listed != NULL && *listed != 0; listed++) {
+        if (*listed == SCMI_PROTOCOL_ID_BASE)
+            continue;
+        if (!has(*listed) || count == sizeof(board.heading.protocols)) {
+            ERROR("SCMI: agent %u: protocol 0x%x is not supported\n", agent, *listed);
+            continue;
+        }
+        for (at = count++; at > 0 && protocols[at - 1] > *listed; at--)
+            protocols[at] = protocols[at - 1];
+        protocols[at] = *listed;
     }
-    if (has_power)
-        board.heading.protocols[at++] = SCMI_PROTOCOL_ID_POWER_DOMAIN;
-    if (has_clocks)
-        board.heading.protocols[at++] = SCMI_PROTOCOL_ID_CLOCK;
 }
 
 static void add_agents(const struct scmi_msg_channel *channel)

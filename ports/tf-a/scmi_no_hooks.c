@@ -1,4 +1,4 @@
-/* What a platform may leave out, as it may with drivers/scmi-msg: then it has no clocks, or no power domains. */
+/* What a platform may leave out, as it may with drivers/scmi-msg: clocks, power domains, and other protocols. */
 #include <stdbool.h>
 
 #include <cdefs.h>
@@ -7,6 +7,7 @@
 #include <drivers/scmi.h>
 
 #include "scmi_hooks.h"
+#include "scmi_service_board.h"
 
 #pragma weak plat_scmi_pd_count
 #pragma weak plat_scmi_pd_get_name
@@ -20,6 +21,12 @@
 #pragma weak plat_scmi_clock_set_rate
 #pragma weak plat_scmi_clock_get_state
 #pragma weak plat_scmi_clock_set_state
+#pragma weak scmi_service_has
+
+bool scmi_service_has(uint8_t protocol __unused)
+{
+    return false;
+}
 
 size_t plat_scmi_pd_count(unsigned int agent_id __unused)
 {

@@ -24,6 +24,7 @@
 
 #pragma weak scmi_service_outbox
 #pragma weak scmi_service_look
+#pragma weak scmi_service_other
 
 /* A core's stack in BL31 may have 1 KB; making a platform takes 7 KB, and so all is done on a stack of its own. */
 #ifndef SCMI_PORT_STACK
@@ -200,9 +201,18 @@ static void execute(unsigned int agent)
 
     if (copy.count > 0)
         scmi_service_look(agent, platform, copy.message[0], copy.count > 1 ? copy.message[1] : 0);
-    if (scmi_ask_words(platform, scmi_service_number(agent), copy.message, copy.count, copy.reply, SCMI_MESSAGE_WORDS,
-                       &copy.given, &effect) == SCMI_EFFECT)
+    switch (scmi_ask_words(platform, scmi_service_number(agent), copy.message, copy.count, copy.reply,
+                           SCMI_MESSAGE_WORDS, &copy.given, &effect)) {
+    case SCMI_EFFECT:
         drive(agent, &effect, false);
+        break;
+    case SCMI_OTHER:
+        copy.reply[0] = copy.message[0];
+        copy.given = 1 + scmi_service_other(agent, copy.message, copy.count, copy.reply + 1);
+        break;
+    default:
+        break;
+    }
 }
 
 /* Whether a message was answered whose agent wants an interrupt. */
@@ -344,6 +354,14 @@ void scmi_service_restart(unsigned int agent_id)
 void scmi_service_look(unsigned int agent_id __unused, scmi_platform *platform __unused, uint32_t header __unused,
                        uint32_t id __unused)
 {
+}
+
+/* Of a platform without protocols of its own. */
+uint32_t scmi_service_other(unsigned int agent_id __unused, uint32_t *message __unused, uint32_t count __unused,
+                            uint32_t *words)
+{
+    words[0] = (uint32_t)SCMI_NOT_SUPPORTED;
+    return 1;
 }
 
 /* Of a platform without channels back. */

@@ -77,6 +77,16 @@ int32_t scmi_service_drive(unsigned int agent_id, const scmi_effect *effect);
  */
 void scmi_service_look(unsigned int agent_id, scmi_platform *platform, uint32_t header, uint32_t id);
 
+/*
+ * Answers a command of a protocol that the board has and the library has not: `message` is its `count` words, the header
+ * word and the payload. Writes the payload words of the reply, at most SCMI_PAYLOAD_WORDS, the status first, and gives
+ * how many they are. Without this call it is NOT_SUPPORTED.
+ */
+uint32_t scmi_service_other(unsigned int agent_id, uint32_t *message, uint32_t count, uint32_t *words);
+
+/* Whether scmi_service_other answers a protocol. Without this call it answers none. */
+bool scmi_service_has(uint8_t protocol);
+
 /* The channel for the platform's messages to an agent, always the same. Null if there is none, as without this call. */
 const struct scmi_msg_channel *scmi_service_outbox(unsigned int agent_id);
 

@@ -19,8 +19,10 @@
 enum { STATUS = 1, FLAGS = 4, LENGTH = 5, HEADER = 6, PAYLOAD = 7, AREA_BYTES = 128 };
 /* Headers without a token. */
 enum { VERSION = 0x4000, STATE_SET = 0x4404, STATE_NOTIFY = 0x4406, RATE_SET = 0x5005, RATE_GET = 0x5006,
-       CONFIG_SET = 0x5007, DISCOVER_AGENT = 0x4007, SET_DEVICE_PERMISSIONS = 0x4009, RATE_SET_COMPLETE = 0x5205,
+       CONFIG_SET = 0x5007, LIST_PROTOCOLS = 0x4006, DISCOVER_AGENT = 0x4007, SET_DEVICE_PERMISSIONS = 0x4009, RATE_SET_COMPLETE = 0x5205,
        STATE_CHANGED = 0x4700 };
+/* Of the board's own protocol, 0x80: a sum, and a reply of more words than the channels have. */
+enum { OWN_SUM = 0x20003, OWN_LONG = 0x20004 };
 /* The first word of the second agent's name. */
 enum { REMOTE_NAME = 0x6f6d6572 };
 enum { ON = 0, OFF = 0x40000000, ASYNCHRONOUS = 1, BUSY = 0, FREE = 1, CHANNEL_ERROR = 3, NO_ANSWER = 2 };
@@ -40,7 +42,8 @@ static const scmi_board_clock clocks[] = {
 static const uint64_t rates[] = { 100, 200, 300 };
 static const scmi_board_device devices[] = { { .domains = 1 << 1 } };
 static const scmi_board board = {
-    .heading = { .vendor = "Acme", .sub_vendor = "Lab", .trusted = SCMI_SERVICE_FIRMWARE },
+    .heading = { .vendor = "Acme", .sub_vendor = "Lab", .trusted = SCMI_SERVICE_FIRMWARE,
+                 .protocols = { 0x11, 0x14, 0x80 } },
     .agents = agents, .agent_count = SCMI_SERVICE_FIRMWARE, .domains = domains, .domain_count = 2, .clocks = clocks,
     .clock_count = 1, .rates = rates, .rate_count = 3, .devices = devices, .device_count = 1,
 };
@@ -78,6 +81,14 @@ bool scmi_service_start(unsigned int agent, scmi_platform *platform)
 
     return starts && scmi_answer(platform, SCMI_SERVICE_FIRMWARE, area.bytes) == SCMI_DONE && area.payload[0] == 0 &&
            scmi_service_bring_up(agent, platform);
+}
+
+uint32_t scmi_service_other(unsigned int agent, uint32_t *message, uint32_t count, uint32_t *words)
+{
+    words[0] = SCMI_SUCCESS;
+    words[1] = agent;
+    words[2] = count == 3 ? message[1] + message[2] : 0;
+    return message[0] == OWN_LONG ? SCMI_PAYLOAD_WORDS : 3;
 }
 
 int32_t scmi_service_drive(unsigned int agent, const scmi_effect *effect)
@@ -259,6 +270,20 @@ static void agents_share_the_platform(void)
                                           areas[REMOTE][PAYLOAD + 2] == REMOTE_NAME);
 }
 
+static void a_protocol_of_the_boards_own_is_answered_by_its_file(void)
+{
+    const uint32_t *area = areas[REMOTE];
+
+    init();
+    check("it is listed", ask(REMOTE, LIST_PROTOCOLS, 1, (uint32_t[]){ 0 }) == 0 && area[PAYLOAD + 1] == 3 &&
+                              area[PAYLOAD + 2] == 0x00801411);
+    check("its words", ask(REMOTE, OWN_SUM, 2, (uint32_t[]){ 5, 6 }) == 0 && area[HEADER] == OWN_SUM &&
+                           area[LENGTH] == 16 && area[PAYLOAD + 1] == REMOTE && area[PAYLOAD + 2] == 11);
+    check("a channel error for more than there is room for", ask(REMOTE, OWN_LONG, 0, NULL) == 1);
+    check("one that is not listed", ask(REMOTE, OWN_SUM + (1 << 10), 0, NULL) == SCMI_NOT_SUPPORTED);
+    check("which the hardware is not asked for", drives == 4 && version(LOCAL) == 0);
+}
+
 static void what_the_board_keeps_is_not_switched_off(void)
 {
     init();
@@ -358,6 +383,7 @@ static const struct test tests[] = {
     { "a board without its channel back is not served", a_board_without_its_channel_back_is_not_served, 0 },
     { "a channel back that is none is not served", a_channel_back_that_is_none_is_not_served, 0 },
     { "agents share the platform", agents_share_the_platform, 0 },
+    { "a protocol of the board's own is answered by its file", a_protocol_of_the_boards_own_is_answered_by_its_file, 0 },
     { "what the board keeps is not switched off", what_the_board_keeps_is_not_switched_off, 0 },
     { "an interrupt is wanted or not", an_interrupt_is_wanted_or_not, 0 },
     { "sets complete when the service polls", sets_complete_when_the_service_polls, 0 },
