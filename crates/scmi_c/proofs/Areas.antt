@@ -1,8 +1,8 @@
 -- Answers and messages in an area that is whole or of the size of its agent's channel.
-use Rattle.std.proofs.Common.{rules, ◌≡◌, inl, inr, ℕ, ◌-◌, ◌/◌, ◌%◌, ◌==◌, ◌≤◌, ◌&&◌, Bool, true, false, if◌then◌else◌, List, [], ◌∷◌, length, slice_get, nat_le, Option, Some, None, Result, Ok, Err, OnOk, is_none, sym, subst, ap, refl, ◌∙◌, arith}
-use Rattle.std.specs.Prelude.{⊤}
+use Rattle.std.proofs.Common.{rules, ◌≡◌, inl, inr, ℕ, ◌-◌, ◌/◌, ◌%◌, ◌==◌, ◌<◌, ◌≤◌, ◌&&◌, Bool, true, false, if◌then◌else◌, List, [], ◌∷◌, length, slice_get, nat_le, Option, Some, None, Result, Ok, Err, OnOk, is_none, sym, subst, ap, refl, ◌∙◌, arith}
+use Rattle.std.specs.Prelude.{⊤, ◌⊎◌, ◌≢◌}
 use Rattle.std.specs.List.{All}
-use Rattle.std.proofs.lemmas.Bool.{and_from, eq-eqb, le-leb}
+use Rattle.std.proofs.lemmas.Bool.{and_from, eq-eqb, le-leb, leb-false, leb-true}
 use Rattle.std.proofs.lemmas.List.Elements.{All-head, All-drop}
 use Rattle.scmi_codec.specs.Area.{area_after_answer, frame_waiting, header_at, length_at, message_of, status_at, is_well_formed_within, waiting_within}
 use Rattle.scmi_codec.specs.declared.channel_area.ChannelAreaError.{ChannelAreaError}
@@ -55,6 +55,43 @@ room-is words area size few =
     ap (λ (b : Bool). if b then (if nat_le words (capacity area) then Ok tt else Err TooLong) else Err WrongSize) size
     ∙ ap (λ (b : Bool). if b then Ok tt else Err TooLong) (le-leb words (capacity area) few)
 
+-- a message that has room is not refused
+pub not-refused : (r : Result ⊤ ChannelAreaError) (e : ChannelAreaError) (words : ℕ) (area : List ℕ) → is_channel_size (length area) ≡ true → words ≤ capacity area
+    → r ≡ room_for words area → r ≡ Err e → ⊥
+not-refused r e words area size few is err =
+    let fits : ◌≡◌ {A = Result ⊤ ChannelAreaError} (Ok tt) (Err e) = sym (room-is words area size few) ∙ sym is ∙ err in
+    absurd (cc)
+
+-- what was written had room there
+pub room-has : (words : ℕ) (area : List ℕ) → room_for words area ≡ Ok tt → words ≤ capacity area
+room-has words area = by (is_channel_size (length area)) (nat_le words (capacity area)) refl where
+  by : (size fits : Bool) → nat_le words (capacity area) ≡ fits
+      → ◌≡◌ {A = Result ⊤ ChannelAreaError} (if size then (if fits then Ok tt else Err TooLong) else Err WrongSize) (Ok tt) → words ≤ capacity area
+  by true true fit is = leb-true words (capacity area) fit
+  by true false fit is = absurd (cc)
+  by false fits fit is = absurd (cc)
+
+-- what an area of a channel refused had no room there
+pub room-lacks : (words : ℕ) (area : List ℕ) (e : ChannelAreaError) → is_channel_size (length area) ≡ true → room_for words area ≡ Err e → capacity area < words
+room-lacks words area e size is = by (nat_le words (capacity area)) refl where
+  by : (fits : Bool) → nat_le words (capacity area) ≡ fits → capacity area < words
+  by true fit = absurd (not-refused (Err e) e words area size (leb-true words (capacity area) fit) (sym is) refl)
+  by false fit = leb-false words (capacity area) fit
+
+-- an area that holds a frame is of a channel's size
+pub size-of-busy : (area : List ℕ) (r : Result Bool ChannelAreaError) → (is_channel_size (length area) ≡ false → r ≡ Err WrongSize) → r ≡ Ok false
+    → is_channel_size (length area) ≡ true
+size-of-busy area r wrong is = by (is_channel_size (length area)) wrong where
+  by : (size : Bool) → (size ≡ false → r ≡ Err WrongSize) → size ≡ true
+  by true wrong = refl
+  by false wrong = let err = wrong refl in absurd (cc)
+
+-- words that have room there are not refused
+pub reply-fits : (area : List ℕ) (words : ℕ) → is_channel_size (length area) ≡ true → words ≤ capacity area
+    → ((is_channel_size (length area) ≡ false) ⊎ ((channel_waiting area ≢ None) × (capacity area < words))) → ⊥
+reply-fits area words size few (inl wrong) = absurd (cc)
+reply-fits area words size few (inr both) = let more = both.1 in omega (arith, few, more)
+
 pub was-written : (r : Result ⊤ ChannelAreaError) (P : Type 0) → r ≡ Ok tt → OnOk r P → P
 was-written r P is p = subst (λ (r : Result ⊤ ChannelAreaError). OnOk r P) is p
 
@@ -63,13 +100,6 @@ pub free-is : (o : Option Frame) (r : Result Bool ChannelAreaError) (b : Bool) �
 free-is None r b said is free = refl
 free-is (Some frame) r b said is free =
     let no : ◌≡◌ {A = Result Bool ChannelAreaError} (Ok false) (Ok true) = sym said ∙ is ∙ ap (λ (b : Bool). Ok b) free in
-    absurd (cc)
-
--- and so is a message that has room
-pub not-refused : (r : Result ⊤ ChannelAreaError) (e : ChannelAreaError) (words : ℕ) (area : List ℕ) → is_channel_size (length area) ≡ true → words ≤ capacity area
-    → r ≡ room_for words area → r ≡ Err e → ⊥
-not-refused r e words area size few is err =
-    let fits : ◌≡◌ {A = Result ⊤ ChannelAreaError} (Ok tt) (Err e) = sym (room-is words area size few) ∙ sym is ∙ err in
     absurd (cc)
 
 -- an area of an agent has room for what the agent's channel has

@@ -1,6 +1,6 @@
 -- Worked examples of tables, computed from the definitions alone.
-use Rattle.std.proofs.Common.{◌≡◌, ℕ, ◌-◌, ◌+◌, true, false, List, [], ◌∷◌, ◌++◌, length, replicate, codes, Ok, Err, refl}
-use Rattle.scmi_plan.specs.Board.{whole_channel}
+use Rattle.std.proofs.Common.{◌≡◌, ℕ, ◌-◌, ◌+◌, true, false, List, [], ◌∷◌, ◌++◌, length, replicate, codes, Ok, Err, IfOk, refl}
+use Rattle.scmi_plan.specs.Board.{own_protocols, whole_channel}
 use Rattle.scmi_plan.specs.Rates as rates
 use Rattle.scmi_c.specs.Tables.{BoardTables, board_of_tables, is_well_formed, tables_given}
 use Rattle.scmi_c.specs.declared.code.TheConstants.{RULE, TABLE}
@@ -73,13 +73,13 @@ of-phone : board_of_tables (phone (100 ∷ 200 ∷ 400 ∷ [])) ≡ Ok (record {
 of-phone = refl
 
 -- a board without clocks, one of which nothing is said, and one whose ids do not rise
-of-ids : List ℕ → BoardTables
+abbrev of-ids : List ℕ → BoardTables
 of-ids ids = tables_given (record heading { protocols = name ids }) (ap ∷ []) (cpu ∷ []) [] [] []
 
-no-clocks : map_ok (λ board. board.protocols) (board_of_tables (of-ids (0x11 ∷ []))) ≡ Ok (0x11 ∷ [])
+no-clocks : IfOk (board_of_tables (of-ids (0x11 ∷ []))) (λ board. board.protocols ≡ 0x11 ∷ [])
 no-clocks = refl
 
-no-ids : map_ok (λ board. board.protocols) (board_of_tables (of-ids [])) ≡ Ok own_protocols
+no-ids : IfOk (board_of_tables (of-ids [])) (λ board. board.protocols ≡ own_protocols)
 no-ids = refl
 
 no-order : board_of_tables (of-ids (0x14 ∷ 0x11 ∷ [])) ≡ Err TABLE

@@ -112,16 +112,16 @@ fn rates_wrong(item: &[u8]) -> Option<Wrong> {
 
 fn protocols_wrong(item: &[u8]) -> Option<Wrong> {
     let mut last = BASE_PROTOCOL;
-    let mut count = 0usize;
+    let mut left = PROTOCOLS;
     for part in item.split(|byte| *byte == b',') {
         let Some(id) = byte(part) else {
             return Some(Wrong::NotProtocols);
         };
-        if id <= last || count == PROTOCOLS {
+        if id <= last || left == 0 {
             return Some(Wrong::NotProtocols);
         }
         last = id;
-        count += 1;
+        left -= 1;
     }
     None
 }
