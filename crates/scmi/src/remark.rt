@@ -3,7 +3,7 @@ ghost use Rattle.std.specs.Prelude.{IfErr};
 ghost use Rattle.scmi_live.specs.LiveError.{IsRefused};
 
 use scmi_codec::{Answer, Frame};
-use scmi_describe::{Description, describe_message, write_description};
+use scmi_decode::{Description, describe_message, write_description};
 use scmi_link::Collected;
 use scmi_live::LiveError;
 use scmi_text::StepLine;

@@ -7,7 +7,7 @@ use crate::mark::Label;
 use crate::posts::message_of;
 use crate::words::{numbered_words, payload_words};
 use scmi_codec::{BASE_PROTOCOL, Command, Message};
-use scmi_describe::command_fields;
+use scmi_decode::command_fields;
 use scmi_plan::RawPlan;
 use scmi_text::{AgentStep, Step};
 use std::alloc::{AllocError, Global};

@@ -9,7 +9,7 @@ use crate::label_texts::{AGENTS, BY, DEVICE, FROM, PROTOCOLS, SKIP, VERSION};
 use crate::mark::Label;
 use crate::value::{Value, filled_words};
 use crate::words::{counted_words, hex_words, name_words, numbered_words, rate_words, state_words};
-use scmi_describe::Field;
+use scmi_decode::Field;
 use scmi_plan::RawPlan;
 use std::alloc::{AllocError, Global};
 

@@ -4,7 +4,7 @@ use crate::label_texts::{COMMA, PROTOCOL, UNNAMED};
 use crate::mark::Label;
 use crate::value::{Value, filled_words};
 use scmi_codec::message_name;
-use scmi_describe::protocol_name;
+use scmi_decode::protocol_name;
 use std::alloc::{AllocError, Global};
 
 /// A label of a name alone.

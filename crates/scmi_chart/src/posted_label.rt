@@ -7,7 +7,7 @@ use crate::mark::Label;
 use crate::reply_label::status_words;
 use crate::value::{Value, filled_words};
 use scmi_codec::Message;
-use scmi_describe::{delayed_fields, notification_fields, notification_name};
+use scmi_decode::{delayed_fields, notification_fields, notification_name};
 use scmi_plan::RawPlan;
 use std::alloc::{AllocError, Global};
 

@@ -7,7 +7,7 @@ use crate::mark::{Label, Outcome};
 use crate::value::{Value, filled_words};
 use crate::words::{counted_words, hex_words, payload_words};
 use scmi_codec::{Answer, CLOCK_PROTOCOL, Header, Message, Status};
-use scmi_describe::{reply_fields, status_name};
+use scmi_decode::{reply_fields, status_name};
 use scmi_plan::RawPlan;
 use std::alloc::{AllocError, Global};
 

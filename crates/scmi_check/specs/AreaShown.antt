@@ -9,9 +9,9 @@ use Rattle.scmi_codec.specs.declared.area.TheConstants.{AREA_BYTES}
 use Rattle.scmi_codec.specs.declared.frame.Answer.TheVariants.{Reply, ChannelError}
 use Rattle.scmi_codec.specs.declared.frame.Frame.TheVariants.{Good, Malformed}
 use Rattle.scmi_codec.specs.declared.message.Message.{Message}
-use Rattle.scmi_describe.specs.Description.{described_channel}
-use Rattle.scmi_describe.specs.declared.description.Description.{Description}
-use Rattle.scmi_describe.specs.declared.description.Description.TheVariants as is
+use Rattle.scmi_decode.specs.Description.{described_channel}
+use Rattle.scmi_decode.specs.declared.description.Description.{Description}
+use Rattle.scmi_decode.specs.declared.description.Description.TheVariants as is
 use Rattle.scmi_check.specs.declared.shown.Shown.{Shown}
 use Rattle.scmi_check.specs.declared.shown.Shown.TheVariants.{Posted, Got, Took}
 

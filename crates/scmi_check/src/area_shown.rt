@@ -8,7 +8,7 @@ use crate::shown::Shown;
 use arrayvec::ArrayVec;
 use scmi_board::{Items, LineError};
 use scmi_codec::{AREA_BYTES, Answer, Frame, Message};
-use scmi_describe::{Description, describe_channel};
+use scmi_decode::{Description, describe_channel};
 
 /// What the area of a channel is whose words are all items that are left. `Form` if one is not a
 /// word, or no channel has as many.

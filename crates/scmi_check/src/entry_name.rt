@@ -1,6 +1,6 @@
 //! What the message of an entry is called.
 use scmi_codec::{DELAYED_RESPONSE, Frame, Header, NOTIFICATION, message_name};
-use scmi_describe::notification_name;
+use scmi_decode::notification_name;
 use scmi_judge::Entry;
 
 /// The name of an entry's command, or of its message. `None` of a frame that is not well formed, and

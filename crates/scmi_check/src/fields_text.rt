@@ -1,7 +1,7 @@
 //! Fields of messages in a line of a report.
 use arrayvec::ArrayString;
 use scmi_codec::{Command, DELAYED_RESPONSE, Frame, Message, NOTIFICATION};
-use scmi_describe::{Field, command_fields, delayed_fields, notification_fields, reply_fields};
+use scmi_decode::{Field, command_fields, delayed_fields, notification_fields, reply_fields};
 use scmi_judge::Entry;
 use std::fmt::Write as _;
 use std::io;

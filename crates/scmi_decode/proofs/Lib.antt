@@ -1,3 +1,6 @@
+pub mod NameExamples
+pub mod Rows
+pub mod SameDescription
 mod Forms
 mod FoundSoFar
 mod Items

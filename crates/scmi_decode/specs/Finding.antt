@@ -5,7 +5,7 @@ use Rattle.std.specs.Option.{option_or}
 use Rattle.byteorder.specs.Endian.{big_from}
 use Rattle.scmi_codec.specs.Area.{is_well_formed, length_at}
 use Rattle.scmi_codec.specs.ChannelArea.{is_channel_size}
-use Rattle.scmi_describe.specs.Description.{described_channel}
+use Rattle.scmi_decode.specs.Description.{described_channel}
 use Rattle.scmi_decode.specs.Layout.{Part, parts_of, size_of}
 use Rattle.scmi_decode.specs.declared.finding.Finding.{Finding}
 use Rattle.scmi_decode.specs.declared.finding.Found.{Found}

@@ -1,3 +1,9 @@
+pub mod Alike
+pub mod Commands
+pub mod Description
+pub mod FieldParts
+pub mod Names
+pub mod Replies
 pub mod Dump
 pub mod Cell
 pub mod FirstColumn

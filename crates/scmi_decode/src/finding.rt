@@ -2,8 +2,8 @@
 ghost use Rattle.std.specs.Prelude.{◌≡◌};
 ghost use Rattle.scmi_decode.specs.Finding.{is_area_found};
 
+use crate::description::Description;
 use crate::no_bytes::NoBytes;
-use scmi_describe::Description;
 
 /// What bytes are.
 #[derive(Drop)]

@@ -6,13 +6,13 @@ ghost use Rattle.scmi_decode.specs.Layout.{last_part, part_at, size_of};
 ghost use Rattle.scmi_decode.specs.Reported.{Reported};
 ghost use Rattle.scmi_decode.specs.declared.layout.Layout.TheVariants.{Each};
 
+use crate::channel::describe_channel;
 use crate::decode_error::DecodeError;
 use crate::finding::{Finding, Found};
 use crate::findings::Findings;
 use crate::layout::{Layout, Pieces};
 use crate::no_bytes::NoBytes;
 use crate::swapped::swapped_of;
-use scmi_describe::describe_channel;
 
 /// Reports what is found in a dump that begins at this line, or why it has no bytes; gives whether
 /// there is an area. `text` is the line, if that is a dump of its own. `Write` if the output fails.

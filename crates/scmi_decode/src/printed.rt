@@ -5,8 +5,8 @@ use crate::decode_error::DecodeError;
 use crate::finding::{Finding, Found};
 use crate::findings::Findings;
 use crate::no_bytes::NoBytes;
+use crate::text::write_description;
 use scmi_codec::{AREA_BYTES, LEAST_AREA_BYTES};
-use scmi_describe::write_description;
 use std::io;
 use std::io::Write;
 

@@ -12,7 +12,7 @@ use scmi_codec::{
     BASE_MESSAGES, CLOCK_MESSAGES, CLOCK_PROTOCOL, HeldRow, POWER_MESSAGES, POWER_PROTOCOL, Part,
     listed_row, rows_of,
 };
-use scmi_describe::protocol_name;
+use scmi_decode::protocol_name;
 use scmi_plan::RawPlan;
 use std::alloc::Global;
 

@@ -2,7 +2,7 @@
 ghost use Rattle.std.specs.Prelude.{◌≡◌};
 ghost use Rattle.scmi_codec.specs.Area.{area_after_answer, frame_of, area_after_post};
 ghost use Rattle.scmi_codec.specs.declared.frame.Frame.TheVariants.{Good};
-ghost use Rattle.scmi_describe.specs.Description.{described_answer, described_posted};
+ghost use Rattle.scmi_decode.specs.Description.{described_answer, described_posted};
 
 use crate::describing::describe;
 use crate::description::Description;

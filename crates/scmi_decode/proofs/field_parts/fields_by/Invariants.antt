@@ -1,6 +1,6 @@
 use Rattle.std.proofs.Common.{◌≡◌, ◌≤◌, ◌++◌, drop, length}
-use Rattle.scmi_describe.specs.Parts.{fields_by}
-use Rattle.scmi_describe.proofs.parts.fields_by.Given as goal
+use Rattle.scmi_decode.specs.FieldParts.{fields_by}
+use Rattle.scmi_decode.proofs.field_parts.fields_by.Given as goal
 
 abbrev pub invariant-parts : goal.invariant-parts
 invariant-parts l =

@@ -1,9 +1,9 @@
 //! Replies, delayed responses and notifications: their forms and their fields.
 ghost use Rattle.std.specs.Prelude.{◌≡◌};
-ghost use Rattle.scmi_describe.specs.Replies.{response_status, has_reply_form, has_protocols, has_rates, reply_fields, delayed_fields, notification_fields};
+ghost use Rattle.scmi_decode.specs.Replies.{response_status, has_reply_form, has_protocols, has_rates, reply_fields, delayed_fields, notification_fields};
 
 use crate::field::{Field, Fields, fields_of};
-use crate::parts::{fields_by, has_list, row_of, words_of};
+use crate::field_parts::{fields_by, has_list, row_of, words_of};
 use scmi_codec::{BASE_PROTOCOL, CLOCK_PROTOCOL, Message, POWER_PROTOCOL, Status};
 
 /// The status of a message that has the form of a reply: its first word is a status, and what follows

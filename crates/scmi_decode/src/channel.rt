@@ -3,7 +3,7 @@ ghost use Rattle.std.specs.Prelude.{◌≡◌, Ok, Err, true, false, length};
 ghost use Rattle.scmi_codec.specs.ChannelArea.{is_channel_size};
 ghost use Rattle.scmi_codec.specs.declared.area.TheConstants.{AREA_BYTES};
 ghost use Rattle.scmi_codec.specs.declared.channel_area.ChannelAreaError.{ChannelAreaError};
-ghost use Rattle.scmi_describe.specs.Description.{described_area, described_channel};
+ghost use Rattle.scmi_decode.specs.Description.{described_area, described_channel};
 
 use crate::describing::{describe_left, describe_posted, has_error};
 use crate::description::Description;

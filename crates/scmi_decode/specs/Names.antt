@@ -2,7 +2,7 @@
 use Rattle.std.specs.Prelude.{ℕ, ◌==◌, ◌&&◌, if◌then◌else◌, List, Option, Some, None}
 use Rattle.scmi_codec.specs.declared.status.Status.{Status}
 use Rattle.scmi_codec.specs.Status.{status_name}
-use Rattle.scmi_describe.specs.declared.names.TheConstants.{BASE, CLOCK, POWER, POWER_STATE_CHANGED}
+use Rattle.scmi_decode.specs.declared.names.TheConstants.{BASE, CLOCK, POWER, POWER_STATE_CHANGED}
 
 -- the name of a status
 abbrev pub status_text : Status → List ℕ

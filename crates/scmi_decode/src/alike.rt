@@ -1,7 +1,7 @@
 //! Areas that are described alike.
 ghost use Rattle.std.specs.Prelude.{◌≡◌, ◌↔◌, IsTrue};
-ghost use Rattle.scmi_describe.specs.Alike.{state_of, StandAlike};
-ghost use Rattle.scmi_describe.specs.Description.{described_area};
+ghost use Rattle.scmi_decode.specs.Alike.{state_of, StandAlike};
+ghost use Rattle.scmi_decode.specs.Description.{described_area};
 
 use scmi_codec::{AREA_BYTES, Frame, Message, frame_of, status_at};
 

@@ -10,9 +10,9 @@ use Rattle.scmi_codec.specs.declared.frame.Frame.{Frame}
 use Rattle.scmi_codec.specs.declared.frame.Frame.TheVariants as frame
 use Rattle.scmi_codec.specs.declared.frame.Answer.{Answer}
 use Rattle.scmi_codec.specs.declared.frame.Answer.TheVariants as answer
-use Rattle.scmi_describe.specs.Replies.{response_status}
-use Rattle.scmi_describe.specs.declared.description.Description.{Description}
-use Rattle.scmi_describe.specs.declared.description.Description.TheVariants as is
+use Rattle.scmi_decode.specs.Replies.{response_status}
+use Rattle.scmi_decode.specs.declared.description.Description.{Description}
+use Rattle.scmi_decode.specs.declared.description.Description.TheVariants as is
 
 -- what a message of another type than 0 is
 abbrev pub described_p2a : Bool → Message → Description

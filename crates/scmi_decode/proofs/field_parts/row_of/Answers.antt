@@ -1,5 +1,5 @@
-use Rattle.scmi_describe.proofs.Rows.{asks, gives, later}
-use Rattle.scmi_describe.proofs.parts.row_of.Goals as goal
+use Rattle.scmi_decode.proofs.Rows.{asks, gives, later}
+use Rattle.scmi_decode.proofs.field_parts.row_of.Goals as goal
 
 pub returns-clause-asks : goal.returns-clause-asks
 returns-clause-asks c = asks c.args.protocol c.from.result c.listed_row.result c.listed_row.ensures.row

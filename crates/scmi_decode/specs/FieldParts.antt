@@ -4,8 +4,8 @@ use Rattle.scmi_codec.specs.Listing.{size_of}
 use Rattle.scmi_codec.specs.Rate.{rate_of}
 use Rattle.scmi_codec.specs.declared.messages.Part.{Part}
 use Rattle.scmi_codec.specs.declared.messages.Part.TheVariants as part
-use Rattle.scmi_describe.specs.declared.field.Field.{Field}
-use Rattle.scmi_describe.specs.declared.field.Field.TheVariants as field
+use Rattle.scmi_decode.specs.declared.field.Field.{Field}
+use Rattle.scmi_decode.specs.declared.field.Field.TheVariants as field
 
 -- whether a part is a list, which has no field
 abbrev pub is_list : Part → Bool

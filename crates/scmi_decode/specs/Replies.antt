@@ -8,9 +8,9 @@ use Rattle.scmi_codec.specs.Status.{status_of}
 use Rattle.scmi_codec.specs.declared.message.Message.{Message}
 use Rattle.scmi_codec.specs.declared.status.Status.{Status}
 use Rattle.scmi_codec.specs.declared.status.Status.TheVariants.{Success, NotSupported, ProtocolError}
-use Rattle.scmi_describe.specs.Parts.{fields_by, is_list}
-use Rattle.scmi_describe.specs.declared.field.Field.{Field}
-use Rattle.scmi_describe.specs.declared.field.Field.TheVariants as field
+use Rattle.scmi_decode.specs.FieldParts.{fields_by, is_list}
+use Rattle.scmi_decode.specs.declared.field.Field.{Field}
+use Rattle.scmi_decode.specs.declared.field.Field.TheVariants as field
 
 -- fields, as a vector of fixed room has them
 abbrev pub FieldList : Type 0

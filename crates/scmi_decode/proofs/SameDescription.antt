@@ -8,11 +8,11 @@ use Rattle.scmi_codec.specs.declared.status.Status.{Status}
 use Rattle.scmi_codec.specs.declared.status.Status.TheVariants.{Success}
 use Rattle.scmi_codec.specs.declared.frame.Frame.{Frame}
 use Rattle.scmi_codec.specs.declared.frame.Frame.TheVariants.{Good, Malformed}
-use Rattle.scmi_describe.specs.Alike.{state_of, StandAlike}
-use Rattle.scmi_describe.specs.Replies.{response_status}
-use Rattle.scmi_describe.specs.Description.{described_area, described_by_status, described_left, described_p2a, described_posted, described_response}
-use Rattle.scmi_describe.specs.declared.description.Description.{Description}
-use Rattle.scmi_describe.specs.declared.description.Description.TheVariants as is
+use Rattle.scmi_decode.specs.Alike.{state_of, StandAlike}
+use Rattle.scmi_decode.specs.Replies.{response_status}
+use Rattle.scmi_decode.specs.Description.{described_area, described_by_status, described_left, described_p2a, described_posted, described_response}
+use Rattle.scmi_decode.specs.declared.description.Description.{Description}
+use Rattle.scmi_decode.specs.declared.description.Description.TheVariants as is
 
 -- the frame of a description
 abbrev frame_in : Description → Frame

@@ -1,6 +1,6 @@
 //! The fields of messages.
 ghost use Rattle.std.specs.Prelude.{◌≡◌, ◌≤◌, length};
-ghost use Rattle.scmi_describe.specs.declared.field.TheConstants.{FIELDS};
+ghost use Rattle.scmi_decode.specs.declared.field.TheConstants.{FIELDS};
 
 use arrayvec::ArrayVec;
 

@@ -3,8 +3,8 @@ ghost use Rattle.std.specs.Prelude.{◌≡◌, ◌≤◌, IfSome, drop, length, 
 ghost use Rattle.std.specs.List.{list_any};
 ghost use Rattle.std.specs.Option.{option_map};
 ghost use Rattle.scmi_codec.specs.Listing.{said, listed_row, size_of, words_of};
-ghost use Rattle.scmi_describe.specs.Parts.{field_of, fields_by, is_list, name_field, statistics_field};
-ghost use Rattle.scmi_describe.specs.declared.field.TheConstants.{FIELDS};
+ghost use Rattle.scmi_decode.specs.FieldParts.{field_of, fields_by, is_list, name_field, statistics_field};
+ghost use Rattle.scmi_decode.specs.declared.field.TheConstants.{FIELDS};
 
 use crate::field::{Field, Fields};
 use arrayvec::ArrayVec;

@@ -3,8 +3,8 @@ use Rattle.std.specs.Prelude.{ℕ, List, [], Option, Some, None}
 use Rattle.scmi_codec.specs.Command.{command_header, command_words}
 use Rattle.scmi_codec.specs.Listing.{Said, listed_row}
 use Rattle.scmi_codec.specs.declared.command.Command.{Command}
-use Rattle.scmi_describe.specs.Parts.{fields_by}
-use Rattle.scmi_describe.specs.declared.field.Field.{Field}
+use Rattle.scmi_decode.specs.FieldParts.{fields_by}
+use Rattle.scmi_decode.specs.declared.field.Field.{Field}
 
 -- the fields of a command's payload words by the row of its message
 abbrev pub asked_fields : Option Said → List ℕ → List Field

@@ -1,6 +1,6 @@
 -- The names of protocols and of the notification.
 use Rattle.std.proofs.Common.{◌≡◌, codes, Some, refl}
-use Rattle.scmi_describe.specs.Names.{notification_text, protocol_text}
+use Rattle.scmi_decode.specs.Names.{notification_text, protocol_text}
 
 base : protocol_text 0x10 ≡ Some (codes "base")
 base = refl

@@ -1,9 +1,9 @@
 //! The fields of commands.
 ghost use Rattle.std.specs.Prelude.{◌≡◌};
-ghost use Rattle.scmi_describe.specs.Commands.{command_fields};
+ghost use Rattle.scmi_decode.specs.Commands.{command_fields};
 
 use crate::field::{Fields, fields_of};
-use crate::parts::{fields_by, row_of};
+use crate::field_parts::{fields_by, row_of};
 use scmi_codec::Command;
 
 /// The fields of a command, in the order of its payload words.

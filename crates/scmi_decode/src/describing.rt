@@ -4,7 +4,7 @@ ghost use Rattle.scmi_codec.specs.Area.{status_at, StandsForAnswer};
 ghost use Rattle.scmi_codec.specs.declared.frame.Frame.{Frame as FrameOf};
 ghost use Rattle.scmi_codec.specs.declared.frame.Frame.TheVariants.{Good};
 ghost use Rattle.scmi_codec.specs.declared.frame.Answer.{Answer as AnswerOf};
-ghost use Rattle.scmi_describe.specs.Description.{described_area, described_posted, described_left, described_response, described_p2a, described_answer};
+ghost use Rattle.scmi_decode.specs.Description.{described_area, described_posted, described_left, described_response, described_p2a, described_answer};
 
 use crate::description::Description;
 use crate::reply::response_status;

@@ -1,7 +1,7 @@
 //! The names of messages, protocols and statuses (DEN0056B).
 ghost use Rattle.std.specs.Prelude.{◌≡◌};
 ghost use Rattle.std.specs.Option.{option_copied};
-ghost use Rattle.scmi_describe.specs.Names.{status_text, protocol_text, notification_text};
+ghost use Rattle.scmi_decode.specs.Names.{status_text, protocol_text, notification_text};
 
 use scmi_codec::{BASE_PROTOCOL, CLOCK_PROTOCOL, POWER_PROTOCOL, Status};
 

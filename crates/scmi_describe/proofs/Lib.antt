@@ -1,3 +1,0 @@
-pub mod NameExamples
-pub mod Rows
-pub mod SameDescription
