@@ -5,7 +5,7 @@ use Rattle.std.specs.List.{All}
 use Rattle.scmi_board.specs.BoardLines.{Described}
 use Rattle.scmi_board.specs.Lines.{LinesView}
 use Rattle.scmi_board.specs.ValidBoard.{with_its_lines}
-use Rattle.scmi_session.proofs.BoardAgents.{agents_kept}
+use Rattle.scmi_modes.proofs.BoardAgents.{agents_kept}
 use Rattle.scmi_plan.specs.Board.{Board}
 use Rattle.scmi_text.specs.Step.{IsStepOf}
 use Rattle.scmi_text.specs.declared.step.Step.{Step}

@@ -12,7 +12,7 @@ use Rattle.scmi_text.specs.declared.step.Step.{Step}
 use Rattle.scmi_text.specs.declared.step.Step.TheVariants as step
 use Rattle.scmi_text.specs.declared.step_line.StepLine.{StepLine}
 use Rattle.scmi_text.specs.declared.step_line.StepLine.TheVariants as line
-use Rattle.scmi_session.specs.StepLines.{AreLinesOf}
+use Rattle.scmi_modes.specs.StepLines.{AreLinesOf}
 use Rattle.scmi_chart.specs.Signs.{Sign, answered, delayed, executed, faulted, notified, sent_sign, lane, signs_of, reply_token, has_fault, outcome_of}
 use Rattle.scmi_chart.specs.Detail.{answer_detail, message_detail}
 use Rattle.scmi_chart.specs.Service.{line_agent, served_by, is_lane, is_served, executed_by, served_so_far, laters_after, is_later}

@@ -8,11 +8,11 @@ use Rattle.scmi_link.specs.View.{CallerView}
 use Rattle.scmi_link.specs.declared.closing.Closing.{Closing}
 use Rattle.scmi_link.specs.declared.close_error.CloseError.{CloseError}
 use Rattle.scmi_plan.specs.Board.{Board}
-use Rattle.scmi_session.proofs.Lines.{follow_more}
-use Rattle.scmi_session.proofs.Runs.{runs_none, runs_more}
-use Rattle.scmi_session.specs.SessionView.{SessionView}
-use Rattle.scmi_session.specs.Run.{Runs, IsNewSession}
-use Rattle.scmi_session.specs.StepLines.{AreLinesOf}
+use Rattle.scmi_modes.proofs.SessionLines.{follow_more}
+use Rattle.scmi_modes.proofs.Runs.{runs_none, runs_more}
+use Rattle.scmi_modes.specs.SessionView.{SessionView}
+use Rattle.scmi_modes.specs.Run.{Runs, IsNewSession}
+use Rattle.scmi_modes.specs.StepLines.{AreLinesOf}
 use Rattle.scmi_chart.specs.declared.chart.Chart.{Chart}
 use Rattle.scmi_chart.specs.Signs.{sign_of}
 use Rattle.scmi_chart.specs.Service.{laters_after}

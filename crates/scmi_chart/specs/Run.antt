@@ -15,10 +15,10 @@ use Rattle.scmi_text.specs.Step.{IsWithoutHardware}
 use Rattle.scmi_text.specs.StepText.{hardware_steps_of_lines, steps_of_lines}
 use Rattle.scmi_text.specs.declared.step.Step.{Step}
 use Rattle.scmi_text.specs.declared.step_line.StepLine.{StepLine}
-use Rattle.scmi_session.specs.SessionView.{SessionView}
-use Rattle.scmi_session.specs.Run.{Runs}
-use Rattle.scmi_session.specs.StepLines.{IsLineOf}
-use Rattle.scmi_session.specs.Steps.{Steps as Makes}
+use Rattle.scmi_modes.specs.SessionView.{SessionView}
+use Rattle.scmi_modes.specs.Run.{Runs}
+use Rattle.scmi_modes.specs.StepLines.{IsLineOf}
+use Rattle.scmi_modes.specs.SessionSteps.{Steps as Makes}
 use Rattle.scmi_chart.specs.declared.chart.Chart.{Chart}
 use Rattle.scmi_chart.specs.Signs.{sign_of}
 use Rattle.scmi_chart.specs.Shown.{Shown, shown_after, run_signs, none_later, head_of, heads_from}

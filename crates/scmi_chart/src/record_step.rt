@@ -8,7 +8,7 @@ use crate::recorder::Recorder;
 use scmi_board::TextLine;
 use scmi_core::Core;
 use scmi_link::Channel;
-use scmi_session::{Session, Standing};
+use scmi_modes::{Session, Standing};
 use scmi_text::Step;
 use std::alloc::{AllocError, Global};
 

@@ -12,8 +12,8 @@ use Rattle.scmi_link.specs.declared.close_error.CloseError.{CloseError}
 use Rattle.scmi_board.specs.BoardLines.{Described}
 use Rattle.scmi_board.specs.ValidBoard.{with_its_lines}
 use Rattle.scmi_plan.specs.Board.{Board}
-use Rattle.scmi_session.specs.Run.{AllSteps, IsNewSession}
-use Rattle.scmi_session.specs.SessionView.{SessionView}
+use Rattle.scmi_modes.specs.Run.{AllSteps, IsNewSession}
+use Rattle.scmi_modes.specs.SessionView.{SessionView}
 use Rattle.scmi_text.specs.declared.step.Step.{Step}
 use Rattle.scmi_text.specs.declared.step_line.StepLine.{StepLine}
 use Rattle.scmi_live.specs.Heard.{Gives, Heard, MayGive}

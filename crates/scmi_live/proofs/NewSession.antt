@@ -5,8 +5,8 @@ use Rattle.scmi_link.specs.View.{new_callee, new_caller}
 use Rattle.scmi_plan.specs.Board.{Board}
 use Rattle.scmi_ends.specs.AgentView.{AgentView, IsNewAgent}
 use Rattle.scmi_ends.specs.Each.{AllFrom}
-use Rattle.scmi_session.specs.Run.{IsNewSession}
-use Rattle.scmi_session.specs.SessionView.{SessionView}
+use Rattle.scmi_modes.specs.Run.{IsNewSession}
+use Rattle.scmi_modes.specs.SessionView.{SessionView}
 
 -- agent n, which has done nothing
 new_agent : ℕ → AgentView

@@ -9,9 +9,9 @@ use Rattle.scmi_io.specs.declared.input.TheConstants.{INPUT_BYTES}
 use Rattle.scmi_board.specs.BoardLines.{Described}
 use Rattle.scmi_board.specs.ValidBoard.{with_its_lines}
 use Rattle.scmi_plan.specs.Board.{Board}
-use Rattle.scmi_session.specs.Run.{IsGathered, Runs}
-use Rattle.scmi_session.specs.SessionView.{SessionView}
-use Rattle.scmi_session.specs.Steps.{Steps}
+use Rattle.scmi_modes.specs.Run.{IsGathered, Runs}
+use Rattle.scmi_modes.specs.SessionView.{SessionView}
+use Rattle.scmi_modes.specs.SessionSteps.{Steps}
 use Rattle.scmi_text.specs.declared.step.Step.{Step}
 use Rattle.scmi_text.specs.declared.step_line.StepLine.{StepLine}
 use Rattle.scmi_text.specs.declared.step_line.StepLine.TheVariants.{Trace}

@@ -4,8 +4,8 @@ use crate::listener::Listener;
 use crate::live_error::LiveError;
 use crate::meant::{Meant, line_meant};
 use scmi_link::Channel;
+use scmi_modes::{Session, Standing};
 use scmi_plan::{Plan, RawPlan};
-use scmi_session::{Session, Standing};
 use scmi_text::{Step, StepLine};
 use std::alloc::{AllocError, Global};
 use std::marker::Model;
@@ -40,7 +40,7 @@ impl<'a, C: Channel> Live<'a, C> {
     ghost use Rattle.std.specs.Prelude.{◌≡◌, length, IfErr, IfOk, IsErrOf, OnErr, OnOk};
     ghost use Rattle.scmi_plan.specs.RawPlan.{asked_board};
     ghost use Rattle.scmi_ends.specs.Shut.{ShowsClose};
-    ghost use Rattle.scmi_session.specs.Run.{IsGathered, IsNewSession};
+    ghost use Rattle.scmi_modes.specs.Run.{IsGathered, IsNewSession};
     ghost use Rattle.scmi_text.specs.Step.{IsStepOf};
     ghost use Rattle.scmi_live.specs.Heard.{Gives, MayGive};
     ghost use Rattle.scmi_live.specs.Live.{Answers, AnswersAs, IsStep, MakesStep, StopsAs, StopsAt, StopsStep, at_end, goes_on};

@@ -1,3 +1,10 @@
+pub mod BoardAgents
+mod DroppedSince
+pub mod SessionLines
+pub mod Plain
+pub mod Refused
+pub mod Reports
+pub mod Runs
 pub mod Inputs
 pub mod OneLine
 pub mod Scripts

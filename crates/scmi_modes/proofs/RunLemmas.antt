@@ -19,11 +19,11 @@ use Rattle.scmi_link.specs.View.{CallerView}
 use Rattle.scmi_link.specs.declared.closing.Closing.{Closing}
 use Rattle.scmi_link.specs.declared.close_error.CloseError.{CloseError}
 use Rattle.scmi_plan.specs.Board.{Board}
-use Rattle.scmi_session.proofs.Plain.{runs_plain}
-use Rattle.scmi_session.proofs.Runs.{runs_none, runs_more}
-use Rattle.scmi_session.specs.SessionView.{SessionView}
-use Rattle.scmi_session.specs.Steps.{Steps}
-use Rattle.scmi_session.specs.Run.{Runs, IsNewSession, IsGathered}
+use Rattle.scmi_modes.proofs.Plain.{runs_plain}
+use Rattle.scmi_modes.proofs.Runs.{runs_none, runs_more}
+use Rattle.scmi_modes.specs.SessionView.{SessionView}
+use Rattle.scmi_modes.specs.SessionSteps.{Steps}
+use Rattle.scmi_modes.specs.Run.{Runs, IsNewSession, IsGathered}
 use Rattle.scmi_modes.specs.Steps.{AreStepLines, IsTextOfSteps}
 
 pub nothing_written : (old : Option (List ℕ)) → Appends old old []

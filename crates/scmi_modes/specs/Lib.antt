@@ -1,3 +1,9 @@
+pub mod StepLines
+pub mod SessionView
+pub mod Refusing
+pub mod SessionSteps
+pub mod Run
+pub mod Standing
 pub mod RunError
 pub mod Reads
 pub mod Input

@@ -15,8 +15,8 @@ use Rattle.scmi_text.specs.StepLine.{step_text}
 use Rattle.scmi_text.specs.declared.step.Step.{Step}
 use Rattle.scmi_text.specs.declared.step_line.StepLine.{StepLine}
 use Rattle.scmi_text.specs.declared.step_line.StepLine.TheVariants.{Trace}
-use Rattle.scmi_session.specs.SessionView.{SessionView}
-use Rattle.scmi_session.specs.Run.{Runs, IsGathered}
+use Rattle.scmi_modes.specs.SessionView.{SessionView}
+use Rattle.scmi_modes.specs.Run.{Runs, IsGathered}
 use Rattle.scmi_modes.specs.Input.{steps_of_input}
 use Rattle.scmi_modes.specs.Runs.{may_be_full}
 use Rattle.scmi_modes.specs.declared.kind.Kind.{Kind}

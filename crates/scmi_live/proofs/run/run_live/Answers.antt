@@ -14,7 +14,7 @@ use Rattle.scmi_live.specs.Meant.{line_meant}
 use Rattle.std.proofs.lemmas.Bool.Decides.{nat_tests}
 use Rattle.scmi_io.specs.Lines.{first_line}
 use Rattle.scmi_board.specs.BoardLines.{described}
-use Rattle.scmi_session.specs.Run.{IsNewSession}
+use Rattle.scmi_modes.specs.Run.{IsNewSession}
 use Rattle.scmi_ends.specs.Shut.{ShowsClose}
 use Rattle.scmi_live.proofs.Answered.{before_any, before_long, before_uncounted, first_answered, more_answered, none_answered, none_yet, refused_at_last, refused_at_line, refused_at_quit, refuses_by_end, stopped_at_line, stopped_by_end}
 use Rattle.scmi_live.proofs.UnderWay.{agents_count, at_begin, at_last, at_quit, one_more}

@@ -8,7 +8,7 @@ use Rattle.scmi_board.specs.Lines.{LinesView, lines_left}
 use Rattle.scmi_plan.specs.Board.{Board}
 use Rattle.scmi_text.specs.TextLines.{FailsScript}
 use Rattle.scmi_plan.specs.declared.plan_error.PlanError.{PlanError}
-use Rattle.scmi_session.proofs.BoardAgents.{agents_kept}
+use Rattle.scmi_modes.proofs.BoardAgents.{agents_kept}
 use Rattle.scmi_modes.proofs.Inputs.{board_fails, count_fails, few_agents, lines_same, rule_fails, script_fails, stands}
 use Rattle.scmi_modes.specs.Input.{behind_mode, board_of_lines, script_of_lines}
 use Rattle.scmi_modes.proofs.steps.read_input.Goals as goal

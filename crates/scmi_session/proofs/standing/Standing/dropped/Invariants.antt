@@ -1,7 +1,0 @@
-use Rattle.std.proofs.Common.{◌≡◌, length}
-use Rattle.scmi_session.specs.Standing.{dropped_of, is_dropped_since}
-use Rattle.scmi_session.proofs.standing.Standing.dropped.Given as goal
-
-abbrev pub invariant-agents : goal.invariant-agents
-invariant-agents l =
-    l.dropped.items ≡ dropped_of (is_dropped_since l.core.board l.self l.core.history) (length l.core.board.domains) l.index
