@@ -1,3 +1,5 @@
+pub mod TableRun
+pub mod TableError
 pub mod Given
 pub mod Program
 pub mod Record

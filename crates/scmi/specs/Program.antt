@@ -7,7 +7,7 @@ use Rattle.scmi_decode.specs.declared.layout.Layout.{Layout}
 use Rattle.scmi_decode.specs.declared.layout.Layout.TheVariants.{Whole}
 use Rattle.scmi_chart.specs.Picture.{IsDiagram}
 use Rattle.scmi_live.specs.Hertz.{in_hertz}
-use Rattle.scmi_table.specs.Run.{HoldsBoard}
+use Rattle.scmi.specs.TableRun.{HoldsBoard}
 use Rattle.scmi.specs.Given.{OfGiven}
 use Rattle.scmi.specs.declared.request.Request.{Request}
 use Rattle.scmi.specs.declared.request.Request.TheVariants.{Do, Dumps, Bytes, Diagram}

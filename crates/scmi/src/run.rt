@@ -2,7 +2,7 @@
 ghost use Rattle.std.specs.Prelude.{◌≡◌, ◌≢◌, true, false, List, ℕ, Some, IfSome};
 ghost use Rattle.scmi_io.specs.Lines.{after_line, first_line, has_line_feed};
 ghost use Rattle.scmi_live.specs.Hertz.{in_hertz};
-ghost use Rattle.scmi_table.specs.Run.{HoldsBoard};
+ghost use Rattle.scmi.specs.TableRun.{HoldsBoard};
 ghost use Rattle.scmi.specs.Given.{OfGiven, is_hardware};
 ghost use Rattle.scmi.specs.Program.{Answers, AnswersOf};
 
@@ -10,6 +10,7 @@ use crate::given::{in_numbers, is_hardware, with_end};
 use crate::refusal::WRONG_ARGUMENT;
 use crate::request::Request;
 use crate::rest::Rest;
+use crate::table_run::run_table;
 use crate::task::Task;
 use crate::texts::write_text;
 use scmi_chart::{Form, run_draw};
@@ -17,7 +18,6 @@ use scmi_decode::{Layout, Readings, run_bytes, run_decode};
 use scmi_io::{CountedReader, Input, read_rest, write_fault};
 use scmi_live::in_hertz;
 use scmi_modes::{Modes, RunError, run_program};
-use scmi_table::run_table;
 use scmi_threads::OpenGate;
 use std::alloc::Global;
 use std::io::{Read, Write};

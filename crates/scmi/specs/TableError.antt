@@ -6,8 +6,8 @@ use Rattle.scmi_io.specs.declared.fault_words.TheConstants.{BOARD, MEMORY, PLAN,
 use Rattle.scmi_io.specs.declared.input_error.InputError.{InputError}
 use Rattle.scmi_io.specs.declared.input_error.InputError.TheVariants as input
 use Rattle.scmi_plan.specs.PlanError.{number}
-use Rattle.scmi_table.specs.declared.table_error.TableError.{TableError}
-use Rattle.scmi_table.specs.declared.table_error.TableError.TheVariants.{Size, Read, Board, Plan, Memory, Write}
+use Rattle.scmi.specs.declared.table_error.TableError.{TableError}
+use Rattle.scmi.specs.declared.table_error.TableError.TheVariants.{Size, Read, Board, Plan, Memory, Write}
 
 -- 1 for a failed output, 4 for out of memory, and 2 for a rejected input (own)
 abbrev pub status_of : TableError → ℕ

@@ -8,9 +8,9 @@ use Rattle.scmi_io.specs.FaultLine.{fault_line}
 use Rattle.scmi_io.specs.declared.input.TheConstants.{INPUT_BYTES}
 use Rattle.scmi_plan.specs.PlanError.{number}
 use Rattle.scmi_plan.specs.declared.plan_error.PlanError.{PlanError}
-use Rattle.scmi_table.specs.TableError.{fault_text, status_of}
-use Rattle.scmi_table.specs.declared.table_error.TableError.{TableError}
-use Rattle.scmi_table.specs.declared.table_error.TableError.TheVariants.{Size, Read, Board as BoardLine, Plan as PlanRule, Memory}
+use Rattle.scmi.specs.TableError.{fault_text, status_of}
+use Rattle.scmi.specs.declared.table_error.TableError.{TableError}
+use Rattle.scmi.specs.declared.table_error.TableError.TheVariants.{Size, Read, Board as BoardLine, Plan as PlanRule, Memory}
 
 -- an input holds a board that keeps every rule, if it is known
 pub record HoldsBoard (known : Option (List ℕ)) : Type 0 where

@@ -2,7 +2,7 @@
 ghost use Rattle.std.specs.Prelude.{IfOk, IfErr, IfSome};
 ghost use Rattle.scmi_board.specs.BoardLines.{described};
 ghost use Rattle.scmi_board.specs.ValidBoard.{IsBoardText};
-ghost use Rattle.scmi_table.specs.Run.{IsFaultOf};
+ghost use Rattle.scmi.specs.TableRun.{IsFaultOf};
 
 use crate::table_error::TableError;
 use scmi_board::{BoardWithLines, read_valid_board};

@@ -1,7 +1,7 @@
 //! The tables of a board, a row a line. A table without rows is left out.
 
 use crate::in_string::InString;
-use crate::said::{channel_of, denied_to, is_absent, is_free, is_kept};
+use crate::table_said::{channel_of, denied_to, is_absent, is_free, is_kept};
 use scmi_board::{BoardLine, BoardWithLines};
 use scmi_codec::{AREA_BYTES, PAYLOAD_WORDS};
 use scmi_plan::{Device, PENDING_SETS, Rates, RawClock, RawDomain, Resource, Scope};

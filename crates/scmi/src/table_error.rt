@@ -1,6 +1,6 @@
 //! Why a board has no tables.
 ghost use Rattle.std.specs.Prelude.{◌≡◌, ◌≢◌};
-ghost use Rattle.scmi_table.specs.TableError.{error_of_board, error_of_input, status_of};
+ghost use Rattle.scmi.specs.TableError.{error_of_board, error_of_input, status_of};
 
 use scmi_board::BoardError;
 use scmi_io::{BOARD, InputError, MEMORY, PLAN, READ, SIZE, WRITE};
@@ -26,7 +26,7 @@ pub enum TableError {
 
 impl TableError {
     /// The exit status: 1 for a failed output, 2 for a rejected input, 4 when out of memory.
-    pub fn status(&self) -> u8
+    pub(crate) fn status(&self) -> u8
         ensures status { result ≡ status_of self.now }
         ensures not_done { result ≢ 0 }
     {
@@ -42,7 +42,7 @@ impl Error for TableError {}
 
 impl fmt::Display for TableError {
     ghost use Rattle.std.specs.Prelude.{Some};
-    ghost use Rattle.scmi_table.specs.TableError.{fault_text};
+    ghost use Rattle.scmi.specs.TableError.{fault_text};
 
     ghost output = { λ fault. Some (fault_text fault) };
 

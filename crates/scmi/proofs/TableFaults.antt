@@ -4,8 +4,8 @@ use Rattle.scmi_board.specs.ValidBoard.{IsBoardFault}
 use Rattle.scmi_board.specs.declared.board_error.BoardError.{BoardError}
 use Rattle.scmi_board.specs.declared.board_error.BoardError.TheVariants as board
 use Rattle.scmi_board.proofs.ValidBoards.{after_fails, line_fails}
-use Rattle.scmi_table.specs.Run.{IsFaultOf}
-use Rattle.scmi_table.specs.TableError.{error_of_board}
+use Rattle.scmi.specs.TableRun.{IsFaultOf}
+use Rattle.scmi.specs.TableError.{error_of_board}
 
 -- a text without a valid board
 pub board_fails : (text : List ℕ) (e : BoardError) → IsBoardFault text e → IsFaultOf text (error_of_board e)

@@ -1,5 +1,5 @@
 use Rattle.scmi_board.specs.BoardLines.{described}
-use Rattle.scmi_table.proofs.run.run_table.Goals as goal
+use Rattle.scmi.proofs.table_run.run_table.Goals as goal
 
 -- the board that was read
 pub returns-in-Ok-clause-board : goal.returns-in-Ok-clause-board

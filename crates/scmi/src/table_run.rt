@@ -1,11 +1,11 @@
 //! The tables of a board, from its text to the exit status.
 ghost use Rattle.std.specs.Prelude.{◌≡◌, ◌≢◌, OnErr, OnOk};
-ghost use Rattle.scmi_table.specs.Run.{EndsWithFault, HoldsBoard};
-ghost use Rattle.scmi_table.specs.TableError.{status_of};
+ghost use Rattle.scmi.specs.TableRun.{EndsWithFault, HoldsBoard};
+ghost use Rattle.scmi.specs.TableError.{status_of};
 
-use crate::read::read_board;
 use crate::table::write_table;
 use crate::table_error::TableError;
+use crate::table_read::read_board;
 use scmi_io::write_fault;
 use std::alloc::Global;
 use std::io;
