@@ -88,25 +88,34 @@ static struct service *service_of(unsigned int agent)
     return &services[SCMI_PORT_SHARED ? 0 : agent];
 }
 
+/* What each message goes through is not called: BL31 is compiled for size. */
+#define IN_EACH_MESSAGE static inline __attribute__((always_inline))
+
 /* A mailbox over a channel. False if it is none. */
-static bool is_over(const struct scmi_msg_channel *channel, scmi_mailbox *box)
+IN_EACH_MESSAGE bool is_over(const struct scmi_msg_channel *channel, scmi_mailbox *box)
 {
     return channel != NULL && scmi_mailbox_over(box, (void *)channel->shm_addr, channel->shm_size) == SCMI_DONE;
 }
 
-/* The mailbox over an agent's channel. It has no words if the agent has none, or one that is no channel, and is then in
- * error. */
-static scmi_mailbox find_box(unsigned int agent)
+/* A channel that is none any more. */
+static void set_in_error(const struct scmi_msg_channel *channel)
 {
-    const struct scmi_msg_channel *channel = agent < SCMI_PORT_AGENTS ? plat_scmi_get_channel(agent) : NULL;
-    scmi_mailbox box = { NULL, 0 };
+    scmi_mailbox box = { (scmi_shared_word *)channel->shm_addr, 0 };
 
-    if (channel == NULL || is_over(channel, &box))
-        return box;
-    box.words = (scmi_shared_word *)channel->shm_addr;
     if (channel->shm_addr % 4 == 0 && channel->shm_size > SCMI_AREA_STATUS + 3)
         scmi_shared_hand_over(&box, SCMI_MAILBOX_FREE_ERROR);
-    return (scmi_mailbox){ NULL, 0 };
+}
+
+/* The mailbox over an agent's channel. False if the agent has none, or one that is no channel, which is then in error. */
+IN_EACH_MESSAGE bool find_box(unsigned int agent, scmi_mailbox *box)
+{
+    const struct scmi_msg_channel *channel = agent < SCMI_PORT_AGENTS ? plat_scmi_get_channel(agent) : NULL;
+
+    if (is_over(channel, box))
+        return true;
+    if (channel != NULL)
+        set_in_error(channel);
+    return false;
 }
 
 /* Whether each agent's channels are those that its board says: if not, no message of it could be answered whole. */
@@ -218,10 +227,10 @@ static void execute(unsigned int agent)
 /* Whether a message was answered whose agent wants an interrupt. */
 static uint32_t serve(unsigned int agent)
 {
-    scmi_mailbox box = find_box(agent);
+    scmi_mailbox box;
     uint32_t flags;
 
-    if (box.words == NULL || scmi_mailbox_take_words(&box, &copy) != SCMI_DONE)
+    if (!find_box(agent, &box) || scmi_mailbox_take_words(&box, &copy) != SCMI_DONE)
         return false;
     flags = scmi_shared_load(&box, SCMI_AT_FLAGS);
     if (!service_of(agent)->is_asked_for)
@@ -285,10 +294,10 @@ static void clear(const scmi_mailbox *box)
 /* What the agent asked for ends; nothing is asked of the hardware here, so this comes between two messages. */
 static uint32_t restart(unsigned int agent)
 {
-    scmi_mailbox commands = find_box(agent), messages;
+    scmi_mailbox commands, messages;
     const scmi_mailbox *back;
 
-    if (commands.words == NULL)
+    if (!find_box(agent, &commands))
         return 0;
     back = is_over(scmi_service_outbox(agent), &messages) ? &messages : NULL;
     clear(&commands);
