@@ -65,8 +65,11 @@ fn refit(payload: &mut Payload, count: usize)
     requires { count ≤ PAYLOAD_WORDS }
     ensures { length payload.new.items ≡ count }
 {
-    payload.truncate(count);
-    for _ in payload.len()..count {
+    // Most are a few words more or less, which take no call that clears.
+    while payload.len() > count {
+        let _ = payload.pop();
+    }
+    while payload.len() < count {
         payload.push(FILLER);
     }
 }

@@ -372,7 +372,7 @@ impl Plan {
     pub fn serves(&self, protocol: u8) -> bool
         ensures { result ≡ serves self.now protocol }
     {
-        self.protocols().contains(&protocol)
+        self.protocols().iter().any(|id| *id == protocol)
     }
 
     /// The number of power domains, at most 32. They are numbered from 0.
