@@ -233,11 +233,12 @@ impl Held {
         ensures errors { IfErr result (λ e. (e ≡ Refusal.NoAgent) ⊎ (e ≡ Refusal.Other)) }
     {
         self.check_agent(agent)?;
-        if self.is_other(frame) {
-            return Err(Refusal::Other);
-        }
         if !may_change(frame) {
-            return Ok(None);
+            return if self.is_other(frame) {
+                Err(Refusal::Other)
+            } else {
+                Ok(None)
+            };
         }
         match self.platform.effect_of(agent, frame) {
             Ok(effect) => Ok(effect),
