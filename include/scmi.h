@@ -100,7 +100,7 @@ enum {
     SCMI_NO_FRAME = 8,    /* the channel is free: its area holds no frame */
     SCMI_WRONG_SIZE = 10, /* the area, or the number of words, does not fit the agent's channel */
     SCMI_NO_RESOURCE = 11, /* the board has no domain or clock of this number */
-    SCMI_ASKED = 12,      /* a command was asked about, and is neither committed nor failed */
+    SCMI_ASKED = 12,      /* a command was asked about, or is set aside, and is neither committed nor failed */
     SCMI_EFFECT = 13,     /* of scmi_ask: make this change, then scmi_commit, scmi_fail or scmi_refuse */
     SCMI_TABLE = 14,      /* the board's tables are not well formed */
     SCMI_WRONG_STATUS = 15, /* of scmi_refuse: the number is no SCMI_STATUS_.. */
@@ -286,7 +286,7 @@ static inline uint32_t scmi_platform_new_of(scmi_platform *platform, const scmi_
 #define SCMI_PLATFORM_BYTES(agents, domains, clocks, rates, devices) \
     (SCMI_PLATFORM_ALONE + 24 * (size_t)(agents) + 32 * (size_t)(domains) + 72 * (size_t)(clocks) + \
      8 * (size_t)(rates) + 8 * (size_t)(devices))
-#define SCMI_PLATFORM_ALONE ((size_t)5872)
+#define SCMI_PLATFORM_ALONE ((size_t)6392)
 
 static inline size_t scmi_platform_bytes(const scmi_board *board)
 {
@@ -306,7 +306,8 @@ uint32_t scmi_answer(scmi_platform *SCMI_ALONE platform, uint32_t agent, uint8_t
  * executed and answered in place, as by scmi_answer: SCMI_DONE. Else SCMI_EFFECT: `effect` is what it is to change,
  * the platform keeps the frame as it was read, and the area stays as it was. The program makes the change, and calls
  * scmi_commit, or scmi_fail or scmi_refuse if the hardware refused; until then every call that would change the
- * platform gives SCMI_ASKED and changes nothing, and the calls that read it go on. SCMI_NO_PLATFORM, SCMI_ASKED,
+ * platform gives SCMI_ASKED and changes nothing, and the calls that read it go on. If the hardware is slow,
+ * scmi_set_aside lets others be served meanwhile. SCMI_NO_PLATFORM, SCMI_ASKED (or the frame is held back, see there),
  * SCMI_NO_FRAME (the channel is free) or SCMI_NO_AGENT.
  *
  * If a program commits exactly what its hardware made, fails or refuses exactly what it refused, and calls
@@ -316,6 +317,27 @@ uint32_t scmi_answer(scmi_platform *SCMI_ALONE platform, uint32_t agent, uint8_t
  */
 uint32_t scmi_ask(scmi_platform *SCMI_ALONE platform, uint32_t agent, uint8_t area[SCMI_ALONE SCMI_AREA_BYTES],
                   scmi_effect *SCMI_ALONE effect);
+
+/*
+ * Sets the command that scmi_ask gave a change of aside, in any of its forms, so that others are served while its
+ * hardware settles: one for each agent. It is neither executed nor answered, and its area stays as it is. From then on
+ * scmi_ask, scmi_ask_in and scmi_ask_words execute and ask about the frames of other agents, but for those that are
+ * held back; these get SCMI_ASKED, after SCMI_NO_FRAME, SCMI_NO_AGENT and SCMI_WRONG_SIZE, and nothing changes, so the
+ * program asks again once the command is answered. Held back are messages of an agent that has a command set aside;
+ * sets, asynchronous ones too, of the domain or the clock of a command that is set aside; and the base commands that
+ * change permissions (0x9, 0xa, 0xb). The calls that report, complete, post and read go on; scmi_answer, its other
+ * forms and scmi_restart give SCMI_ASKED until no command is set aside. SCMI_DONE, SCMI_NO_PLATFORM or SCMI_NOTHING (no
+ * command was asked about).
+ */
+uint32_t scmi_set_aside(scmi_platform *SCMI_ALONE platform);
+
+/*
+ * Takes an agent's command up again that was set aside: it is the one that was asked about, and scmi_commit, scmi_fail
+ * and scmi_refuse answer it, in all their forms, with the area of the size that it was asked about in. Its change is
+ * the one that scmi_ask gave, whatever happened meanwhile. SCMI_DONE, SCMI_NO_PLATFORM, SCMI_ASKED (another command was
+ * asked about, and is to be answered or set aside first) or SCMI_NOTHING (the agent has no command set aside).
+ */
+uint32_t scmi_take_up(scmi_platform *SCMI_ALONE platform, uint32_t agent);
 
 /*
  * Answers the command in an area of `bytes` bytes with these `count` payload words, and marks the channel free; the
@@ -443,7 +465,8 @@ uint32_t scmi_sent(scmi_platform *platform, uint32_t agent);
  * messages in its outbox, and the delayed responses to its pending sets. Permissions, values and the pending sets
  * themselves stay; so does what is in its channels already, which the program makes free. If a command of this agent is
  * asked about, it is committed or failed first, and its answer dropped: it would be taken for that to the agent's first
- * new command. scmi_mailbox_restart does all of this. SCMI_DONE, SCMI_NO_PLATFORM, SCMI_ASKED or SCMI_NO_AGENT.
+ * new command. scmi_mailbox_restart does all of this. SCMI_DONE, SCMI_NO_PLATFORM, SCMI_ASKED (also while a command is
+ * set aside: answer it first) or SCMI_NO_AGENT.
  */
 uint32_t scmi_restart(scmi_platform *platform, uint32_t agent);
 

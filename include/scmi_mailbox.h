@@ -296,8 +296,8 @@ static inline uint32_t scmi_mailbox_tell(const scmi_mailbox *box, scmi_platform 
  * scmi_restart does, and makes its channels free; p2a is null if it has none. If a command of this agent is asked
  * about, `asked` is the copy that has it, and `made` whether the hardware has made the change: the command is committed
  * or fails, and the copy then holds no answer, so the agent gets none of it. Else `asked` is null. SCMI_DONE;
- * SCMI_ASKED if a command is asked about and `asked` is null: call again when it is answered. After the other numbers
- * of scmi_commit and scmi_restart nothing has changed.
+ * SCMI_ASKED if a command is asked about and `asked` is null, or if one is set aside: call again when it is answered.
+ * After the other numbers of scmi_commit and scmi_restart nothing has changed.
  */
 static inline uint32_t scmi_mailbox_restart(const scmi_mailbox *a2p, const scmi_mailbox *p2a, scmi_platform *platform,
                                             uint32_t agent, scmi_area *asked, int made)

@@ -30,7 +30,7 @@ size_t scmi_memory_requests(void);
  * SCMI_LINE_BYTES of their number come to it. For a platform of tables SCMI_PLATFORM_BYTES is enough.
  */
 #define SCMI_TEXT_BYTES(agents, domains, clocks, rates, devices) \
-    ((size_t)6256 + 80 * (size_t)(agents) + 48 * (size_t)(domains) + SCMI_LEAST(128 * (size_t)(domains), 1920) + \
+    ((size_t)6776 + 80 * (size_t)(agents) + 48 * (size_t)(domains) + SCMI_LEAST(128 * (size_t)(domains), 1920) + \
      88 * (size_t)(clocks) + SCMI_LEAST(288 * (size_t)(clocks), 4320) + \
      SCMI_LEAST(24 * (size_t)(rates) + 16 * (size_t)(clocks), 1024 * (size_t)(clocks)) + \
      SCMI_LEAST(24 * (size_t)(devices) + 16, 512))

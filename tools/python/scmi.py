@@ -121,7 +121,7 @@ def load(file=None):
             ("scmi_platform_new_recorded", ctypes.c_char_p, ctypes.c_size_t),
             ("scmi_answer_in", number, *area), ("scmi_ask_in", number, *area, effect), ("scmi_commit_in", *area),
             ("scmi_commit_rate_in", *area, number, number), ("scmi_fail_in", *area),
-            ("scmi_refuse_in", *area, ctypes.c_int32),
+            ("scmi_refuse_in", *area, ctypes.c_int32), ("scmi_set_aside",), ("scmi_take_up", number),
             ("scmi_advance",), ("scmi_ask_advance", effect), ("scmi_fail_advance",),
             ("scmi_refuse_advance", ctypes.c_int32),
             ("scmi_next_in", number, *area), ("scmi_sent", number), ("scmi_restart", number),
@@ -233,6 +233,14 @@ class Platform:
 
     def refuse(self, area, status):
         return self._over(self._library.scmi_refuse_in, area, more=(-STATUSES.index(status),))
+
+    def set_aside(self):
+        """Sets the command that ask gave a change of aside: others are served while its hardware settles."""
+        return self._give(self._library.scmi_set_aside(self._handle))
+
+    def take_up(self, agent):
+        """Takes an agent's command up again that was set aside: commit, fail and refuse answer it."""
+        return self._give(self._library.scmi_take_up(self._handle, agent))
 
     def reply(self, area, *words):
         """Answers a command of a protocol of the board that is not the library's: ask raised Refused, number OTHER."""

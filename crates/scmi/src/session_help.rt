@@ -1,7 +1,7 @@
 //! What a session says when it is asked for help.
 
 use crate::unknown_text::Usage;
-use scmi_codec::{BASE_MESSAGES, CLOCK_MESSAGES, HeldRow, POWER_MESSAGES, Part};
+use scmi_codec::{HeldProtocol, HeldRow, PROTOCOLS, Part};
 use scmi_live::flags_of;
 use scmi_plan::RawPlan;
 use std::io::Eprint;
@@ -91,11 +91,11 @@ fn report_row(rt: &impl Eprint, row: &HelpRow) {
 
 /// Reports what a word is that begins a line or names a message.
 fn report_topic(rt: &impl Eprint, topic: &str) {
-    let is_line = report_line(rt, topic);
-    let is_base = report_named(rt, &BASE_MESSAGES, topic);
-    let is_power = report_named(rt, &POWER_MESSAGES, topic);
-    let is_clock = report_named(rt, &CLOCK_MESSAGES, topic);
-    if !(is_line || is_base || is_power || is_clock) {
+    let mut is_there = report_line(rt, topic);
+    for protocol in &PROTOCOLS {
+        is_there |= report_named(rt, protocol.messages, topic);
+    }
+    if !is_there {
         let _ = eprintln!(rt; "no help on \"{topic}\"; help lists what there is");
     }
 }
@@ -137,14 +137,15 @@ fn report_named(rt: &impl Eprint, rows: &[HeldRow], name: &str) -> bool {
 
 /// Reports how each message is written.
 fn report_messages(rt: &impl Eprint) {
-    report_protocol(rt, "base", &BASE_MESSAGES);
-    report_protocol(rt, "power", &POWER_MESSAGES);
-    report_protocol(rt, "clock", &CLOCK_MESSAGES);
+    for protocol in &PROTOCOLS {
+        report_protocol(rt, protocol);
+    }
 }
 
-fn report_protocol(rt: &impl Eprint, protocol: &str, rows: &[HeldRow]) {
-    let _ = eprintln!(rt; "{protocol}:");
-    for row in rows {
+fn report_protocol(rt: &impl Eprint, protocol: &HeldProtocol) {
+    let name = protocol.name;
+    let _ = eprintln!(rt; "{name}:");
+    for row in protocol.messages {
         let usage = Usage {
             name: row.name,
             parts: row.asks,
@@ -175,9 +176,9 @@ fn report_all(rt: &impl Eprint, board: &RawPlan) {
         let word = row.word;
         let _ = eprintln!(rt; "{word}");
     }
-    report_names(rt, &BASE_MESSAGES);
-    report_names(rt, &POWER_MESSAGES);
-    report_names(rt, &CLOCK_MESSAGES);
+    for protocol in &PROTOCOLS {
+        report_names(rt, protocol.messages);
+    }
     for name in &board.agents {
         let _ = eprintln!(rt; "{name}");
     }

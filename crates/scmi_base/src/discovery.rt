@@ -4,13 +4,10 @@ ghost use Rattle.scmi_base.specs.BaseReply.{message_reply, packed_words, protoco
 ghost use Rattle.scmi_codec.specs.Name.{name_words};
 
 use scmi_codec::{
-    BASE_PROTOCOL, Name, Payload, SUCCESS, Status, four_words, is_listed, name_words, set_payload,
-    set_refusal,
+    BASE_PROTOCOL, BASE_VERSION, Name, Payload, SUCCESS, Status, four_words, is_listed, name_words,
+    set_payload, set_refusal,
 };
 use scmi_plan::Plan;
-
-/// The version of the base protocol: major 2, minor 0.
-const VERSION: u32 = 0x0002_0000;
 
 /// The agent id by which a caller asks for itself.
 const THE_CALLER: u32 = 0xffff_ffff;
@@ -25,7 +22,7 @@ const PLATFORM_NAME: [u32; 4] = [0x7461_6c70, 0x6d72_6f66, 0, 0];
 pub(crate) fn version(reply: &mut Payload)
     ensures { reply.new.items ≡ 0 ∷ 0x00020000 ∷ [] }
 {
-    set_payload(reply, &[SUCCESS, VERSION]);
+    set_payload(reply, &[SUCCESS, BASE_VERSION]);
 }
 
 /// 0x1: the number of agents in bits [15:8], the platform not counted (own), and the number of

@@ -6,6 +6,9 @@ mod Areas
 mod Keeping
 mod Driving
 mod RateChanges
+mod Undisturbed
+mod Askable
+mod Places
 mod HistoryLaws
 mod WordReplies
 pub mod TableLemmas

@@ -13,3 +13,4 @@ pub mod Numbers
 pub mod Other
 pub mod Plain
 pub mod Driven
+pub mod Aside

@@ -1,7 +1,7 @@
 -- Why calls did nothing, and their numbers for C.
 use Rattle.std.specs.Prelude.{ℕ, Result, Ok, Err}
 use Rattle.scmi_c.specs.declared.refusal.Refusal.{Refusal}
-use Rattle.scmi_c.specs.declared.refusal.Refusal.TheVariants.{Nothing, NoAgent, NotFree, NoFrame, WrongSize, WrongStatus, NoResource, NoState, NoRate, Other}
+use Rattle.scmi_c.specs.declared.refusal.Refusal.TheVariants.{Nothing, NoAgent, NotFree, NoFrame, WrongSize, WrongStatus, NoResource, NoState, NoRate, Other, Asked}
 
 -- what a call gave, as the number that C is given
 abbrev pub code_of : {A : Type 0} → Result A Refusal → ℕ
@@ -16,3 +16,4 @@ code_of (Err NoResource) = 11
 code_of (Err NoState) = 32
 code_of (Err NoRate) = 33
 code_of (Err Other) = 34
+code_of (Err Asked) = 12

@@ -4,7 +4,7 @@ ghost use Rattle.scmi_codec.specs.Area.{frame_waiting};
 ghost use Rattle.scmi_core.specs.History.{IsIdle};
 ghost use Rattle.scmi_core.specs.declared.event.Event.{Event};
 ghost use Rattle.scmi_core.specs.declared.event.Event.TheVariants.{Advance};
-ghost use Rattle.scmi_c.specs.Kept.{IsAsked, IsUnasked};
+ghost use Rattle.scmi_c.specs.Kept.{HasSameAside, IsAsked, IsBusy, IsFree, IsUnasked};
 ghost use Rattle.scmi_c.specs.Standing.{LacksAgent, StandsAt, board_of};
 ghost use Rattle.scmi_c.specs.Calls.{HasAnswered, HasHappened};
 ghost use Rattle.scmi_c.specs.Driven.{Drives, IsUnsaid};
@@ -18,9 +18,9 @@ use scmi_codec::AREA_BYTES;
 use std::alloc::Global;
 
 /// Executes the frame in an agent's area, and answers it in place. `DONE`; `NO_PLATFORM`; `ASKED`
-/// if a command waits to be committed or to fail; `NOTHING` if the channel is free; `NO_AGENT`. After
-/// another number than `DONE` nothing changed. The hardware is not asked, and nothing is said of
-/// it: a program that drives hardware uses `scmi_ask`.
+/// if a command waits to be committed or to fail, or is set aside; `NOTHING` if the channel is
+/// free; `NO_AGENT`. After another number than `DONE` nothing changed. The hardware is not asked,
+/// and nothing is said of it: a program that drives hardware uses `scmi_ask`.
 #[tactic(auto, using(crate::proofs::Areas::whole_waits))]
 #[unsafe(no_mangle)]
 pub extern "C" fn scmi_answer(
@@ -39,19 +39,20 @@ pub extern "C" fn scmi_answer(
         IsSomeAnd platform.new.value (λ k.
         IsSomeAnd (frame_waiting area.old) (λ frame.
         IsUnsaid p.held k.held agent frame))) }
+    ensures aside { HasSameAside platform.old.value platform.new.value }
     ensures no_platform { (result ≡ NO_PLATFORM) ↔ (platform.old.value ≡ None) }
-    ensures asked { (result ≡ ASKED) ↔ IsSomeAnd platform.old.value IsAsked }
+    ensures asked { (result ≡ ASKED) ↔ IsSomeAnd platform.old.value IsBusy }
     ensures free { (result ≡ NOTHING) ↔
-        IsSomeAnd platform.old.value (λ p. IsUnasked p × (frame_waiting area.old ≡ None)) }
+        IsSomeAnd platform.old.value (λ p. IsFree p × (frame_waiting area.old ≡ None)) }
     ensures no_agent { (result ≡ NO_AGENT) ↔
-        IsSomeAnd platform.old.value (λ p. IsUnasked p ×
+        IsSomeAnd platform.old.value (λ p. IsFree p ×
         (frame_waiting area.old ≢ None) × LacksAgent agent p.held) }
     ensures errors { (result ≤ NOTHING) ⊎ (result ≡ NO_AGENT) ⊎
         (result ≡ NO_PLATFORM) ⊎ (result ≡ ASKED) }
     ensures kept { result ≢ DONE →
         (platform.new.value ≡ platform.old.value) × (area.new ≡ area.old) }
 {
-    let mut desk = match platform.take_unasked(alloc) {
+    let mut desk = match platform.take_free(alloc) {
         Ok(desk) => desk,
         Err(number) => return number,
     };
@@ -78,6 +79,7 @@ pub extern "C" fn scmi_advance(alloc: Global, platform: &mut Handle) -> u32
         (result ≡ NOTHING) ↔ IsIdle (board_of p.held) h) }
     ensures asked { (result ≡ ASKED) ↔ IsSomeAnd platform.old.value IsAsked }
     ensures errors { (result ≤ NOTHING) ⊎ (result ≡ NO_PLATFORM) ⊎ (result ≡ ASKED) }
+    ensures aside { HasSameAside platform.old.value platform.new.value }
     ensures no_platform { (result ≡ NO_PLATFORM) ↔ (platform.old.value ≡ None) }
     ensures kept { result ≢ DONE → platform.new.value ≡ platform.old.value }
 {

@@ -3,7 +3,7 @@ ghost use Rattle.std.specs.Prelude.{◌≡◌, ◌≢◌, ◌↔◌, ◌⊎◌, 
 ghost use Rattle.scmi_codec.specs.ChannelArea.{channel_waiting};
 ghost use Rattle.scmi_core.specs.declared.event.Event.{Event};
 ghost use Rattle.scmi_c.specs.Calls.{HasAnswered, HasNext, HasPosted, LacksNext};
-ghost use Rattle.scmi_c.specs.Kept.{IsAsked, IsUnasked};
+ghost use Rattle.scmi_c.specs.Kept.{HasSameAside, IsBusy, IsFree, IsUnasked};
 ghost use Rattle.scmi_c.specs.Channel.{HasAnotherSize, HasSize, IsFreeOf};
 ghost use Rattle.scmi_c.specs.Driven.{IsUnsaid};
 ghost use Rattle.scmi_c.specs.Standing.{LacksAgent, StandsAt, board_of};
@@ -35,20 +35,21 @@ pub extern "C" fn scmi_answer_in(
         IsSomeAnd platform.new.value (λ k.
         IsSomeAnd (channel_waiting area.old) (λ frame.
         IsUnsaid p.held k.held agent frame))) }
+    ensures aside { HasSameAside platform.old.value platform.new.value }
     ensures no_platform { (result ≡ NO_PLATFORM) ↔ (platform.old.value ≡ None) }
-    ensures asked { (result ≡ ASKED) ↔ IsSomeAnd platform.old.value IsAsked }
+    ensures asked { (result ≡ ASKED) ↔ IsSomeAnd platform.old.value IsBusy }
     ensures no_agent { (result ≡ NO_AGENT) ↔
-        IsSomeAnd platform.old.value (λ p. IsUnasked p × LacksAgent agent p.held) }
+        IsSomeAnd platform.old.value (λ p. IsFree p × LacksAgent agent p.held) }
     ensures wrong_size { (result ≡ WRONG_SIZE) ↔ IsSomeAnd platform.old.value (λ p.
-        IsUnasked p × HasAnotherSize agent (length area.old) p.held) }
+        IsFree p × HasAnotherSize agent (length area.old) p.held) }
     ensures free { (result ≡ NOTHING) ↔
-        IsSomeAnd platform.old.value (λ p. IsUnasked p × IsFreeOf agent area.old p.held) }
+        IsSomeAnd platform.old.value (λ p. IsFree p × IsFreeOf agent area.old p.held) }
     ensures errors { (result ≤ NOTHING) ⊎ (result ≡ NO_AGENT) ⊎
         (result ≡ NO_PLATFORM) ⊎ (result ≡ ASKED) ⊎ (result ≡ WRONG_SIZE) }
     ensures kept { result ≢ DONE →
         (platform.new.value ≡ platform.old.value) × (area.new ≡ area.old) }
 {
-    let mut desk = match platform.take_unasked(alloc) {
+    let mut desk = match platform.take_free(alloc) {
         Ok(desk) => desk,
         Err(number) => return number,
     };

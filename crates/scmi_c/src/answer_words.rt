@@ -1,7 +1,7 @@
 //! Commands as the words of their messages are executed.
 ghost use Rattle.std.specs.Prelude.{◌≡◌, ◌≢◌, ◌↔◌, ◌⊎◌, None, IsSomeAnd, length};
 ghost use Rattle.scmi_c.specs.Driven.{IsUnsaid};
-ghost use Rattle.scmi_c.specs.Kept.{IsAsked, IsUnasked};
+ghost use Rattle.scmi_c.specs.Kept.{HasSameAside, IsBusy, IsFree, IsUnasked};
 ghost use Rattle.scmi_c.specs.Standing.{LacksAgent};
 ghost use Rattle.scmi_c.specs.Words.{HasAnsweredWords, LacksWords, frame_in};
 ghost use Rattle.scmi_c.specs.declared.code.TheConstants.{ASKED, DONE, NO_AGENT, NO_PLATFORM, WRONG_SIZE};
@@ -14,10 +14,11 @@ use std::alloc::Global;
 
 /// Executes a message of an agent, of which these are the header word and the payload words, and
 /// writes those of the reply over the first words of `reply`, and how many they are. `DONE`;
-/// `NO_PLATFORM`; `ASKED` if a command waits to be committed or to fail; `NO_AGENT`; `WRONG_SIZE`
-/// if there is no header word, if the message has more words than the agent's channel, or if
-/// `reply` has not room for as many as a reply may have. After another number than `DONE` nothing
-/// changed. The hardware is not asked: a program that drives hardware uses `scmi_ask_words`.
+/// `NO_PLATFORM`; `ASKED` if a command waits to be committed or to fail, or is set aside;
+/// `NO_AGENT`; `WRONG_SIZE` if there is no header word, if the message has more words than the
+/// agent's channel, or if `reply` has not room for as many as a reply may have. After another
+/// number than `DONE` nothing changed. The hardware is not asked: a program that drives hardware
+/// uses `scmi_ask_words`.
 #[unsafe(no_mangle)]
 pub extern "C" fn scmi_answer_words(
     alloc: Global,
@@ -36,18 +37,19 @@ pub extern "C" fn scmi_answer_words(
         IsSomeAnd platform.old.value (λ p.
         IsSomeAnd platform.new.value (λ k.
         IsUnsaid p.held k.held agent (frame_in message.now))) }
+    ensures aside { HasSameAside platform.old.value platform.new.value }
     ensures no_platform { (result ≡ NO_PLATFORM) ↔ (platform.old.value ≡ None) }
-    ensures asked { (result ≡ ASKED) ↔ IsSomeAnd platform.old.value IsAsked }
+    ensures asked { (result ≡ ASKED) ↔ IsSomeAnd platform.old.value IsBusy }
     ensures no_agent { (result ≡ NO_AGENT) ↔
-        IsSomeAnd platform.old.value (λ p. IsUnasked p × LacksAgent agent p.held) }
+        IsSomeAnd platform.old.value (λ p. IsFree p × LacksAgent agent p.held) }
     ensures wrong_size { (result ≡ WRONG_SIZE) ↔ IsSomeAnd platform.old.value (λ p.
-        IsUnasked p × LacksWords agent (length message.now) (length reply.old) p.held) }
+        IsFree p × LacksWords agent (length message.now) (length reply.old) p.held) }
     ensures errors { (result ≡ DONE) ⊎ (result ≡ NO_AGENT) ⊎
         (result ≡ NO_PLATFORM) ⊎ (result ≡ ASKED) ⊎ (result ≡ WRONG_SIZE) }
     ensures kept { result ≢ DONE → (platform.new.value ≡ platform.old.value)
         × (reply.new ≡ reply.old) × (count.new ≡ count.old) }
 {
-    let mut desk = match platform.take_unasked(alloc) {
+    let mut desk = match platform.take_free(alloc) {
         Ok(desk) => desk,
         Err(number) => return number,
     };

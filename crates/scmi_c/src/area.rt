@@ -10,12 +10,15 @@ ghost use Rattle.scmi_core.specs.Effect.{effect_after};
 ghost use Rattle.scmi_core.specs.declared.answered.Answered.TheVariants as answered_by;
 ghost use Rattle.scmi_core.specs.declared.event.Event.{Event};
 ghost use Rattle.scmi_core.specs.declared.event.Event.TheVariants.{Command as Called};
+ghost use Rattle.scmi_c.specs.Aside.{IsHeldBackAt, IsMarked, KeepsSpared};
+ghost use Rattle.scmi_c.specs.Kept.{AreAskable, aside_by};
 ghost use Rattle.scmi_c.specs.Standing.{LacksAgent, StandsAt, board_of};
 ghost use Rattle.scmi_c.specs.Calls.{HasAnswered, HasPosted, HasNext, IsAskedAbout, LacksNext};
 ghost use Rattle.scmi_c.specs.Channel.{IsAreaOf};
 ghost use Rattle.scmi_c.specs.Driven.{Drives, IsUnsaid};
 ghost use Rattle.scmi_c.specs.Other.{IsOther};
 
+use crate::aside::Aside;
 use crate::desk::Exchange;
 use crate::held::Held;
 use crate::refusal::Refusal;
@@ -67,6 +70,7 @@ fn execute(held: &mut Held, exchange: &mut Exchange, agent: u32, area: &mut [u8]
     requires waits { channel_waiting area.old ≡ Some exchange.old.frame }
     ensures answered { HasAnswered held.old held.new agent exchange.old.frame area.old area.new }
     ensures unsaid { IsUnsaid held.old held.new agent exchange.old.frame }
+    ensures spared { KeepsSpared exchange.old.frame held.old held.new }
     ensures frame { exchange.new.frame ≡ exchange.old.frame }
 {
     let answered = held.command(agent, &exchange.frame, &mut exchange.reply);
@@ -90,16 +94,18 @@ fn put_answer(area: &mut [u8], answered: Answered, payload: &Payload)
 
 /// Executes the frame in an agent's area and answers it in place, if it changes no hardware. Else
 /// gives what it is to change, and keeps the frame. `NoFrame` if the channel is free; else
-/// `NoAgent` if the board lacks the agent, and `Other` for a command that the firmware answers. Then
-/// nothing changed.
+/// `NoAgent` if the board lacks the agent, `Asked` for a frame that is held back by what is set
+/// aside, and `Other` for a command that the firmware answers. Then nothing changed.
 #[tactic(auto, using(crate::proofs::Driving::drives_none))]
 #[inline(always)]
 pub fn ask(
     held: &mut Held,
     exchange: &mut Exchange,
+    aside: &Aside,
     agent: u32,
     area: &mut [u8],
 ) -> Result<Option<Effect>, Refusal>
+    requires marked { IsMarked aside.now }
     requires size { is_channel_size (length area.old) ≡ true }
     requires room { IsAreaOf agent (length area.old) held.old }
     ensures effect { IfOk result (λ effect. IsSomeAnd (channel_waiting area.old) (λ frame.
@@ -112,19 +118,27 @@ pub fn ask(
     ensures asked { IfOk result (λ effect. effect ≢ None →
         (channel_waiting area.old ≡ Some exchange.new.frame) × (area.new ≡ area.old)
         × IsAskedAbout held.old held.new agent) }
+    ensures apart { IfOk result (λ effect. effect ≢ None →
+        aside_by aside.now.slots agent ≡ None) }
+    ensures aside { AreAskable held.old (aside_by aside.now.slots) →
+        AreAskable held.new (aside_by aside.now.slots) }
+    ensures held_back { (result ≡ Err Refusal.Asked) ↔ IsSomeAnd (channel_waiting area.old)
+        (IsHeldBackAt held.old (aside_by aside.now.slots) agent) }
     ensures no_frame { (result ≡ Err Refusal.NoFrame) ↔ (channel_waiting area.old ≡ None) }
     ensures no_agent { (result ≡ Err Refusal.NoAgent) ↔
         ((channel_waiting area.old ≢ None) × LacksAgent agent held.old) }
     ensures other { (result ≡ Err Refusal.Other) ↔ IsSomeAnd (channel_waiting area.old) (λ frame.
-        IsOther agent frame held.old) }
-    ensures errors { IfErr result (λ e.
-        (e ≡ Refusal.NoFrame) ⊎ (e ≡ Refusal.NoAgent) ⊎ (e ≡ Refusal.Other)) }
+        IsOther agent frame held.old
+        × (¬ (IsHeldBackAt held.old (aside_by aside.now.slots) agent frame))) }
+    ensures errors { IfErr result (λ e. (e ≡ Refusal.NoFrame) ⊎ (e ≡ Refusal.NoAgent) ⊎
+        (e ≡ Refusal.Asked) ⊎ (e ≡ Refusal.Other)) }
     ensures err { OnErr result (held.new ≡ held.old) }
     ensures kept { OnErr result (area.new ≡ area.old) }
 {
     let Ok(true) = read_channel_area_into(area, &mut exchange.frame) else {
         return Err(Refusal::NoFrame);
     };
+    held.check_aside(aside, agent, &exchange.frame)?;
     let effect = held.effect_of(agent, &exchange.frame)?;
     if effect.is_none() {
         execute(held, exchange, agent, area);

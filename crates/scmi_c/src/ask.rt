@@ -7,7 +7,8 @@ ghost use Rattle.scmi_core.specs.declared.event.Event.{Event};
 ghost use Rattle.scmi_core.specs.declared.event.Event.TheVariants.{Command as Called};
 ghost use Rattle.scmi_c.specs.Driven.{Drives};
 ghost use Rattle.scmi_c.specs.Effect.{numbers_of};
-ghost use Rattle.scmi_c.specs.Kept.{HasAsked, IsAsked, IsUnasked};
+ghost use Rattle.scmi_c.specs.Aside.{IsHeldBack};
+ghost use Rattle.scmi_c.specs.Kept.{HasAsked, HasSameAside, IsAsked, IsUnasked};
 ghost use Rattle.scmi_c.specs.Other.{IsOther};
 ghost use Rattle.scmi_c.specs.Standing.{LacksAgent, StandsAt, board_of};
 ghost use Rattle.scmi_c.specs.Calls.{ChangesNothing, HasAnswered};
@@ -25,8 +26,9 @@ use std::alloc::Global;
 /// changes no hardware: `DONE`. Else gives what it is to change of the hardware, and keeps the
 /// frame, until `scmi_commit` or `scmi_fail` answers it: `EFFECT`; the area and the history are as
 /// they were. `NO_PLATFORM`; `ASKED` if a command was asked about already; `NO_FRAME` if the
-/// channel is free; `NO_AGENT`; `OTHER` for a command of a protocol of the board that is not the
-/// library's, which the firmware answers. After another number than these two nothing changed.
+/// channel is free; `NO_AGENT`; `ASKED` if the frame is held back by a command that is set aside
+/// (`scmi_set_aside`); `OTHER` for a command of a protocol of the board that is not the library's,
+/// which the firmware answers. After another number than these two nothing changed.
 #[tactic(auto, using(crate::proofs::Areas::whole_waits))]
 #[unsafe(no_mangle)]
 pub extern "C" fn scmi_ask(
@@ -65,15 +67,18 @@ pub extern "C" fn scmi_ask(
     ensures gives { result ≡ EFFECT →
         IsSomeAnd platform.new.value (λ k.
         IsSomeAnd k.asked (λ asked. asked.change ≡ effect.new)) }
+    ensures aside { HasSameAside platform.old.value platform.new.value }
     ensures no_platform { (result ≡ NO_PLATFORM) ↔ (platform.old.value ≡ None) }
-    ensures asked { (result ≡ ASKED) ↔ IsSomeAnd platform.old.value IsAsked }
+    ensures asked { (result ≡ ASKED) ↔ IsSomeAnd platform.old.value (λ p.
+        IsAsked p ⊎ IsSomeAnd (frame_waiting area.old) (IsHeldBack p agent)) }
     ensures no_frame { (result ≡ NO_FRAME) ↔
         IsSomeAnd platform.old.value (λ p. IsUnasked p × (frame_waiting area.old ≡ None)) }
     ensures no_agent { (result ≡ NO_AGENT) ↔
         IsSomeAnd platform.old.value (λ p. IsUnasked p ×
         (frame_waiting area.old ≢ None) × LacksAgent agent p.held) }
     ensures other { (result ≡ OTHER) ↔ IsSomeAnd platform.old.value (λ p. IsUnasked p ×
-        IsSomeAnd (frame_waiting area.old) (λ frame. IsOther agent frame p.held)) }
+        IsSomeAnd (frame_waiting area.old) (λ frame.
+        IsOther agent frame p.held × (¬ (IsHeldBack p agent frame)))) }
     ensures errors { (result ≡ DONE) ⊎ (result ≡ EFFECT) ⊎
         (result ≡ NO_AGENT) ⊎ (result ≡ NO_PLATFORM) ⊎ (result ≡ NO_FRAME) ⊎ (result ≡ ASKED) ⊎
         (result ≡ OTHER) }
@@ -86,7 +91,7 @@ pub extern "C" fn scmi_ask(
         Err(number) => return number,
     };
     let seat: &mut Desk = &mut desk;
-    let given = ask(&mut seat.held, &mut seat.exchange, agent, area);
+    let given = ask(&mut seat.held, &mut seat.exchange, &seat.aside, agent, area);
     if let Ok(Some(change)) = given {
         seat.waiting.begin(agent, AREA_BYTES, change);
         put_numbers(change, effect);

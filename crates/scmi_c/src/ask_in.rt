@@ -6,7 +6,8 @@ ghost use Rattle.scmi_core.specs.declared.event.Event.{Event};
 ghost use Rattle.scmi_core.specs.declared.event.Event.TheVariants.{Command as Called};
 ghost use Rattle.scmi_c.specs.Driven.{Drives};
 ghost use Rattle.scmi_c.specs.Effect.{numbers_of};
-ghost use Rattle.scmi_c.specs.Kept.{HasAsked, IsAsked, IsUnasked};
+ghost use Rattle.scmi_c.specs.Aside.{IsHeldBack};
+ghost use Rattle.scmi_c.specs.Kept.{HasAsked, HasSameAside, IsAsked, IsUnasked};
 ghost use Rattle.scmi_c.specs.Standing.{LacksAgent, StandsAt, board_of};
 ghost use Rattle.scmi_c.specs.Calls.{ChangesNothing, HasAnswered};
 ghost use Rattle.scmi_c.specs.Channel.{HasAnotherSize, HasSize, IsFreeOf};
@@ -20,8 +21,9 @@ use crate::effect::{EffectNumbers, put_numbers};
 use crate::handle::Handle;
 use std::alloc::Global;
 
-/// As `scmi_ask`, of a frame in an area of the size of its agent's channel. `NO_PLATFORM`, `ASKED`,
-/// `NO_AGENT` and `WRONG_SIZE`, if the area has another size, come before all else, in this order.
+/// As `scmi_ask`, of a frame in an area of the size of its agent's channel. `NO_PLATFORM`, `ASKED`
+/// if a command was asked about already, `NO_AGENT` and `WRONG_SIZE`, if the area has another size,
+/// come before all else, in this order.
 #[unsafe(no_mangle)]
 pub extern "C" fn scmi_ask_in(
     alloc: Global,
@@ -59,8 +61,11 @@ pub extern "C" fn scmi_ask_in(
     ensures gives { result ≡ EFFECT →
         IsSomeAnd platform.new.value (λ k.
         IsSomeAnd k.asked (λ asked. asked.change ≡ effect.new)) }
+    ensures aside { HasSameAside platform.old.value platform.new.value }
     ensures no_platform { (result ≡ NO_PLATFORM) ↔ (platform.old.value ≡ None) }
-    ensures asked { (result ≡ ASKED) ↔ IsSomeAnd platform.old.value IsAsked }
+    ensures asked { (result ≡ ASKED) ↔ IsSomeAnd platform.old.value (λ p. IsAsked p ⊎
+        (HasSize agent (length area.old) p.held
+        × IsSomeAnd (channel_waiting area.old) (IsHeldBack p agent))) }
     ensures no_agent { (result ≡ NO_AGENT) ↔
         IsSomeAnd platform.old.value (λ p. IsUnasked p × LacksAgent agent p.held) }
     ensures wrong_size { (result ≡ WRONG_SIZE) ↔ IsSomeAnd platform.old.value (λ p.
@@ -70,7 +75,7 @@ pub extern "C" fn scmi_ask_in(
     ensures other { (result ≡ OTHER) ↔ IsSomeAnd platform.old.value (λ p. IsUnasked p
         × HasSize agent (length area.old) p.held
         × IsSomeAnd (channel_waiting area.old) (λ frame.
-        is_other (board_of p.held) frame ≡ true)) }
+        (is_other (board_of p.held) frame ≡ true) × (¬ (IsHeldBack p agent frame)))) }
     ensures errors { (result ≡ DONE) ⊎ (result ≡ EFFECT) ⊎
         (result ≡ NO_AGENT) ⊎ (result ≡ NO_PLATFORM) ⊎ (result ≡ NO_FRAME) ⊎
         (result ≡ ASKED) ⊎ (result ≡ WRONG_SIZE) ⊎ (result ≡ OTHER) }
@@ -87,7 +92,7 @@ pub extern "C" fn scmi_ask_in(
         return code(Err(refusal));
     }
     let seat: &mut Desk = &mut desk;
-    let given = ask(&mut seat.held, &mut seat.exchange, agent, area);
+    let given = ask(&mut seat.held, &mut seat.exchange, &seat.aside, agent, area);
     if let Ok(Some(change)) = given {
         seat.waiting.begin(agent, area.len(), change);
         put_numbers(change, effect);

@@ -7,7 +7,8 @@ ghost use Rattle.scmi_c.specs.Calls.{ChangesNothing};
 ghost use Rattle.scmi_c.specs.Channel.{bytes_of};
 ghost use Rattle.scmi_c.specs.Driven.{Drives};
 ghost use Rattle.scmi_c.specs.Effect.{numbers_of};
-ghost use Rattle.scmi_c.specs.Kept.{HasAsked, IsAsked, IsUnasked};
+ghost use Rattle.scmi_c.specs.Aside.{IsHeldBack};
+ghost use Rattle.scmi_c.specs.Kept.{HasAsked, HasSameAside, IsAsked, IsUnasked};
 ghost use Rattle.scmi_c.specs.Other.{is_other};
 ghost use Rattle.scmi_c.specs.Standing.{LacksAgent, StandsAt, board_of};
 ghost use Rattle.scmi_c.specs.Words.{FitsWords, HasAnsweredWords, LacksWords, frame_in};
@@ -23,7 +24,8 @@ use std::alloc::Global;
 /// As `scmi_ask`, of the words of a message: executes it and writes the words of the reply, as
 /// `scmi_answer_words` does, if it changes no hardware: `DONE`. Else gives what it is to change,
 /// and keeps the message, as one that was in an area of its channel's size: `EFFECT`. The errors
-/// are those of `scmi_answer_words`, and then `OTHER`, as of `scmi_ask`.
+/// are those of `scmi_answer_words`, and then `ASKED`, if the message is held back by a command
+/// that is set aside, and `OTHER`, as of `scmi_ask`.
 #[unsafe(no_mangle)]
 pub extern "C" fn scmi_ask_words(
     alloc: Global,
@@ -60,15 +62,19 @@ pub extern "C" fn scmi_ask_words(
     ensures gives { result ≡ EFFECT →
         IsSomeAnd platform.new.value (λ k.
         IsSomeAnd k.asked (λ asked. asked.change ≡ effect.new)) }
+    ensures aside { HasSameAside platform.old.value platform.new.value }
     ensures no_platform { (result ≡ NO_PLATFORM) ↔ (platform.old.value ≡ None) }
-    ensures asked { (result ≡ ASKED) ↔ IsSomeAnd platform.old.value IsAsked }
+    ensures asked { (result ≡ ASKED) ↔ IsSomeAnd platform.old.value (λ p. IsAsked p ⊎
+        (FitsWords agent (length message.now) (length reply.old) p.held
+        × IsHeldBack p agent (frame_in message.now))) }
     ensures no_agent { (result ≡ NO_AGENT) ↔
         IsSomeAnd platform.old.value (λ p. IsUnasked p × LacksAgent agent p.held) }
     ensures wrong_size { (result ≡ WRONG_SIZE) ↔ IsSomeAnd platform.old.value (λ p.
         IsUnasked p × LacksWords agent (length message.now) (length reply.old) p.held) }
     ensures other { (result ≡ OTHER) ↔ IsSomeAnd platform.old.value (λ p. IsUnasked p
         × FitsWords agent (length message.now) (length reply.old) p.held
-        × (is_other (board_of p.held) (frame_in message.now) ≡ true)) }
+        × (is_other (board_of p.held) (frame_in message.now) ≡ true)
+        × (¬ (IsHeldBack p agent (frame_in message.now)))) }
     ensures errors { (result ≡ DONE) ⊎ (result ≡ EFFECT) ⊎ (result ≡ NO_AGENT) ⊎
         (result ≡ NO_PLATFORM) ⊎ (result ≡ ASKED) ⊎ (result ≡ WRONG_SIZE) ⊎ (result ≡ OTHER) }
     ensures words { result ≢ DONE → (reply.new ≡ reply.old) × (count.new ≡ count.old) }
@@ -83,6 +89,7 @@ pub extern "C" fn scmi_ask_words(
     let given = ask(
         &mut seat.held,
         &mut seat.exchange,
+        &seat.aside,
         agent,
         message,
         reply,

@@ -37,7 +37,7 @@ pub const WRONG_SIZE: u32 = 10;
 /// The board lacks the domain or clock.
 pub const NO_RESOURCE: u32 = 11;
 
-/// A command was asked about, and is neither committed nor failed.
+/// A command was asked about, or is set aside, and is neither committed nor failed.
 pub const ASKED: u32 = 12;
 
 /// The hardware is to be changed, and then the command committed or failed.
@@ -80,5 +80,6 @@ pub fn code(given: Result<(), Refusal>) -> u32
         Err(Refusal::NoState) => NO_STATE,
         Err(Refusal::NoRate) => NO_RATE,
         Err(Refusal::Other) => OTHER,
+        Err(Refusal::Asked) => ASKED,
     }
 }

@@ -6,7 +6,7 @@ ghost use Rattle.scmi_core.specs.declared.event.Event.TheVariants.{Command as Ca
 ghost use Rattle.scmi_codec.specs.declared.fault.Fault.TheVariants.{HardwareError};
 ghost use Rattle.scmi_c.specs.Calls.{HasAnswered, HasFailed};
 ghost use Rattle.scmi_c.specs.Driven.{Drives, Says};
-ghost use Rattle.scmi_c.specs.Kept.{IsUnasked};
+ghost use Rattle.scmi_c.specs.Kept.{HasSameAside, IsUnasked};
 ghost use Rattle.scmi_c.specs.declared.code.TheConstants.{DONE, NOTHING, NO_PLATFORM, WRONG_SIZE};
 
 use crate::commit_in::{scmi_commit_in, scmi_fail_in};
@@ -39,6 +39,7 @@ pub extern "C" fn scmi_commit(
         IsSomeAnd platform.old.value (λ p.
         IsSomeAnd platform.new.value (λ k.
         IsSomeAnd p.asked (λ asked. Says Made asked.change p.held k.held))) }
+    ensures aside { HasSameAside platform.old.value platform.new.value }
     ensures no_platform { (result ≡ NO_PLATFORM) ↔ (platform.old.value ≡ None) }
     ensures nothing { (result ≡ NOTHING) ↔ IsSomeAnd platform.old.value IsUnasked }
     ensures wrong_size { (result ≡ WRONG_SIZE) ↔ IsSomeAnd platform.old.value (λ p.
@@ -77,6 +78,7 @@ pub extern "C" fn scmi_fail(
         IsSomeAnd platform.new.value (λ k.
         IsSomeAnd p.asked (λ asked.
         Says (λ change. Refused change HardwareError) asked.change p.held k.held))) }
+    ensures aside { HasSameAside platform.old.value platform.new.value }
     ensures no_platform { (result ≡ NO_PLATFORM) ↔ (platform.old.value ≡ None) }
     ensures nothing { (result ≡ NOTHING) ↔ IsSomeAnd platform.old.value IsUnasked }
     ensures wrong_size { (result ≡ WRONG_SIZE) ↔ IsSomeAnd platform.old.value (λ p.

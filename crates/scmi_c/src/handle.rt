@@ -1,6 +1,6 @@
 //! A platform as a C program holds it.
 ghost use Rattle.std.specs.Prelude.{◌≡◌, ◌↔◌, ◌⊎◌, Option, Some, None, MatchOption, IsSomeAnd, IfOk, IfErr, OnOk, OnErr, Err};
-ghost use Rattle.scmi_c.specs.Kept.{Kept, IsAsked, IsUnasked};
+ghost use Rattle.scmi_c.specs.Kept.{Kept, IsAsked, IsBusy, IsFree, IsUnasked};
 ghost use Rattle.scmi_c.specs.declared.code.TheConstants.{ASKED, NO_PLATFORM};
 
 use crate::code::{ASKED, NO_PLATFORM};
@@ -84,6 +84,29 @@ impl Handle {
             return Err(NO_PLATFORM);
         };
         if desk.is_asked() {
+            self.put(desk);
+            return Err(ASKED);
+        }
+        Ok(desk)
+    }
+
+    /// Takes a platform out of which no command was asked about and none is set aside, and leaves
+    /// nothing. `NO_PLATFORM` if there is none, and `ASKED` if a command waits or is set aside;
+    /// then nothing changed.
+    pub fn take_free(&mut self, alloc: Global) -> Result<Box<Desk>, u32>
+        ensures taken { IfOk result (λ desk. self.old.value ≡ Some desk.value) }
+        ensures free { IfOk result (λ desk. IsFree desk.value) }
+        ensures unasked { IfOk result (λ desk. IsUnasked desk.value) }
+        ensures left { OnOk result (self.new.value ≡ None) }
+        ensures no_platform { (result ≡ Err NO_PLATFORM) ↔ (self.old.value ≡ None) }
+        ensures asked { (result ≡ Err ASKED) ↔ IsSomeAnd self.old.value IsBusy }
+        ensures errors { IfErr result (λ n. (n ≡ NO_PLATFORM) ⊎ (n ≡ ASKED)) }
+        ensures kept { OnErr result (self.new.value ≡ self.old.value) }
+    {
+        let Some(desk) = self.take(alloc) else {
+            return Err(NO_PLATFORM);
+        };
+        if desk.is_busy() {
             self.put(desk);
             return Err(ASKED);
         }

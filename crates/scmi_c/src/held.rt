@@ -7,17 +7,21 @@ ghost use Rattle.scmi_plan.specs.Agent.{IsAgent};
 ghost use Rattle.scmi_plan.specs.Plan.{IsValid};
 ghost use Rattle.scmi_plan.specs.declared.effect.Effect.TheVariants.{Enabled, Rate};
 ghost use Rattle.scmi_core.specs.Asked.{Made, Refused};
-ghost use Rattle.scmi_core.specs.Effect.{effect_after};
+ghost use Rattle.scmi_core.specs.Effect.{effect_after, is_set_frame};
 ghost use Rattle.scmi_core.specs.History.{IsIdle, HasNothingFor, answer_to, answer_with};
 ghost use Rattle.scmi_core.specs.Reply.{failed_answer};
 ghost use Rattle.scmi_core.specs.Value.{HasNoResource, HasNoState};
 ghost use Rattle.scmi_core.specs.declared.event.Event.{Event};
 ghost use Rattle.scmi_core.specs.declared.event.Event.TheVariants.{Command as Called, Advance, Sent, CommandFailed, AdvanceFailed, Restarted, Reported};
+ghost use Rattle.scmi_plan.specs.declared.limits.TheConstants.{AGENTS};
+ghost use Rattle.scmi_c.specs.Aside.{IsHeldBackAt, IsHeldBackBy, IsMarked, KeepsSpared};
 ghost use Rattle.scmi_c.specs.Calls.{HasHappened};
 ghost use Rattle.scmi_c.specs.Driven.{Drives, HappenInTurn, IsDriven, IsUnsaid};
+ghost use Rattle.scmi_c.specs.Kept.{KeepsAskable, aside_by};
 ghost use Rattle.scmi_c.specs.Other.{IsOther, is_other};
-ghost use Rattle.scmi_c.specs.Standing.{IsCount, IsCounted, LacksAgent, StandsAt, board_of};
+ghost use Rattle.scmi_c.specs.Standing.{HasHistory, IsCount, IsCounted, LacksAgent, StandsAt, board_of};
 
+use crate::aside::Aside;
 use crate::refusal::Refusal;
 use scmi_codec::{BASE_PROTOCOL, CLOCK_PROTOCOL, Fault, Frame, Header, Message, POWER_PROTOCOL};
 use scmi_core::{Answered, CoreError, Effect, Platform, Said, Saying, may_change};
@@ -72,6 +76,7 @@ impl Held {
             answer_with result reply.new ≡ answer_to (board_of self.old) agent frame.now h }
         ensures event { HasHappened self.old self.new (Called agent frame.now) }
         ensures unsaid { IsUnsaid self.old self.new agent frame.now }
+        ensures spared { KeepsSpared frame.now self.old self.new }
     {
         match self.platform.command(agent, frame, reply) {
             Ok(answered) => {
@@ -89,6 +94,7 @@ impl Held {
             (result ≡ false) ↔ IsIdle (board_of self.old) h }
         ensures event { result ≡ true → HasHappened self.old self.new Advance }
         ensures driven { result ≡ true → Drives self.old self.new Advance }
+        ensures askable { KeepsAskable self.old self.new }
         ensures same { result ≡ false → self.new ≡ self.old }
     {
         let said = self.said.and(&Saying::Completed(&self.platform));
@@ -107,6 +113,7 @@ impl Held {
             HasHappened self.old self.new (AdvanceFailed fault))) }
         ensures driven { OnOk result (IsSomeAnd fault (λ fault.
             Drives self.old self.new (AdvanceFailed fault))) }
+        ensures askable { KeepsAskable self.old self.new }
         ensures nothing { (h : List Event) → StandsAt self.old h →
             (result ≡ Err Refusal.Nothing) ↔ IsIdle (board_of self.old) h }
         ensures wrong_status { (h : List Event) → StandsAt self.old h →
@@ -137,6 +144,7 @@ impl Held {
     pub fn sent(&mut self, agent: u32) -> Result<(), Refusal>
         ensures event { OnOk result (HasHappened self.old self.new (Sent agent)) }
         ensures driven { OnOk result (Drives self.old self.new (Sent agent)) }
+        ensures askable { KeepsAskable self.old self.new }
         ensures no_agent { (result ≡ Err Refusal.NoAgent) ↔ LacksAgent agent self.old }
         ensures nothing { (h : List Event) → StandsAt self.old h →
             (result ≡ Err Refusal.Nothing) ↔ HasNothingFor (board_of self.old) agent h }
@@ -175,6 +183,7 @@ impl Held {
     pub fn report(&mut self, effect: Effect) -> Result<(), Refusal>
         ensures event { OnOk result (HasHappened self.old self.new (Reported effect)) }
         ensures driven { OnOk result (Drives self.old self.new (Reported effect)) }
+        ensures askable { KeepsAskable self.old self.new }
         ensures said { self.new.said ≡ self.old.said }
         ensures no_resource { (result ≡ Err Refusal.NoResource)
             ↔ HasNoResource (board_of self.old) effect }
@@ -198,6 +207,7 @@ impl Held {
     pub fn report_clock(&mut self, clock: u32, rate: u64, enabled: bool) -> Result<(), Refusal>
         ensures ok { OnOk result (HappenInTurn self.old self.new
             (Reported (Rate clock rate)) (Reported (Enabled clock enabled))) }
+        ensures askable { KeepsAskable self.old self.new }
         ensures no_resource { (result ≡ Err Refusal.NoResource)
             ↔ HasNoResource (board_of self.old) (Rate clock rate) }
         ensures errors { IfErr result (λ e. e ≡ Refusal.NoResource) }
@@ -212,10 +222,48 @@ impl Held {
         requires clock { clock < length (board_of self.old).clocks }
         ensures event { HasHappened self.old self.new (Reported (Rate clock rate)) }
         ensures driven { Drives self.old self.new (Reported (Rate clock rate)) }
+        ensures askable { KeepsAskable self.old self.new }
         ensures said { self.new.said ≡ self.old.said }
     {
         // Never refused, since the board has the clock.
         let _ = self.report(Effect::Rate { clock, rate });
+    }
+
+    /// Refuses a frame of an agent that is held back by what is set aside, and before it a number
+    /// that is no agent's. It looks at neither if nothing is set aside.
+    #[inline(always)]
+    pub fn check_aside(&self, aside: &Aside, agent: u32, frame: &Frame) -> Result<(), Refusal>
+        requires { IsMarked aside.now }
+        ensures spared { OnOk result
+            (¬ (IsHeldBackBy (aside_by aside.now.slots) agent frame.now)) }
+        ensures asked { (result ≡ Err Refusal.Asked) ↔
+            IsHeldBackAt self.now (aside_by aside.now.slots) agent frame.now }
+        ensures no_agent { result ≡ Err Refusal.NoAgent → LacksAgent agent self.now }
+        ensures errors { IfErr result (λ e. (e ≡ Refusal.NoAgent) ⊎ (e ≡ Refusal.Asked)) }
+    {
+        if !aside.is_any {
+            return Ok(());
+        }
+        self.check_held_back(aside, agent, frame)
+    }
+
+    /// As `check_aside`, if something is set aside.
+    #[inline(never)]
+    fn check_held_back(&self, aside: &Aside, agent: u32, frame: &Frame) -> Result<(), Refusal>
+        requires { length aside.now.slots ≡ AGENTS }
+        ensures spared { OnOk result
+            (¬ (IsHeldBackBy (aside_by aside.now.slots) agent frame.now)) }
+        ensures asked { (result ≡ Err Refusal.Asked) ↔
+            IsHeldBackAt self.now (aside_by aside.now.slots) agent frame.now }
+        ensures no_agent { result ≡ Err Refusal.NoAgent → LacksAgent agent self.now }
+        ensures errors { IfErr result (λ e. (e ≡ Refusal.NoAgent) ⊎ (e ≡ Refusal.Asked)) }
+    {
+        self.check_agent(agent)?;
+        if aside.holds_back(agent, frame) {
+            Err(Refusal::Asked)
+        } else {
+            Ok(())
+        }
     }
 
     /// What an agent's command is to change of the hardware, before it is executed; `None` if it
@@ -226,6 +274,7 @@ impl Held {
         ensures effect { (h : List Event) → StandsAt self.now h →
             IfOk result (λ effect.
             effect ≡ effect_after (board_of self.now) h (Called agent frame.now)) }
+        ensures set { IfOk result (λ effect. effect ≢ None → is_set_frame frame.now ≡ true) }
         ensures agent { OnOk result (IsAgent (length (board_of self.now).agents) agent) }
         ensures valid { IsValid (board_of self.now) }
         ensures no_agent { (result ≡ Err Refusal.NoAgent) ↔ LacksAgent agent self.now }
@@ -276,6 +325,7 @@ impl Held {
         ensures event { HasHappened self.old self.new (Called agent frame.now) }
         ensures driven { Drives self.old self.new (Called agent frame.now) }
         ensures said { self.new.said ≡ self.old.said ++ Made effect ∷ [] }
+        ensures askable { KeepsAskable self.old self.new }
         ensures clock { (clock rate : ℕ) → effect ≡ Rate clock rate
             → clock < length (board_of self.old).clocks }
     {
@@ -302,6 +352,7 @@ impl Held {
         ensures event { HasHappened self.old self.new (CommandFailed agent frame.now fault) }
         ensures driven { Drives self.old self.new (CommandFailed agent frame.now fault) }
         ensures said { self.new.said ≡ self.old.said ++ Refused effect fault ∷ [] }
+        ensures askable { KeepsAskable self.old self.new }
     {
         self.command_failed(agent, frame, fault, reply);
         self.said = self.said.and(&Saying::Refused(effect, fault));
@@ -315,12 +366,21 @@ impl Held {
         ensures answer { Reply reply.new ≡ failed_answer frame.now fault }
         ensures event { HasHappened self.old self.new (CommandFailed agent frame.now fault) }
         ensures said { self.new.said ≡ self.old.said }
+        ensures history { HasHistory self.old }
     {
         match self.platform.command_failed(agent, frame, fault, reply) {
             Ok(()) => count(&mut self.events),
             // Never, since the board has the agent and there is an effect.
             Err(_) => {}
         }
+    }
+
+    /// Does nothing: it is there for its contract, that a platform is as some history leaves it.
+    #[inline(always)]
+    pub fn stand(&self)
+        ensures { HasHistory self.now }
+    {
+        let _events = &self.events;
     }
 
     /// Refuses a number that is no agent's.

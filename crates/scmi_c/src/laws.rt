@@ -1,12 +1,17 @@
-//! What holds of each platform that a program drives, and of each whose hardware refuses and reports nothing.
-ghost use Rattle.std.specs.Prelude.{◌≡◌, List, []};
+//! What holds of each platform that a program drives, of each whose hardware refuses and reports
+//! nothing, and of what is held back.
+ghost use Rattle.std.specs.Prelude.{◌≡◌, ℕ, List, []};
 ghost use Rattle.std.specs.List.{All};
+ghost use Rattle.scmi_codec.specs.declared.frame.Frame.{Frame};
+ghost use Rattle.scmi_codec.specs.declared.frame.Frame.TheVariants.{Malformed};
 ghost use Rattle.scmi_core.specs.Asked.{made_of};
 ghost use Rattle.scmi_core.specs.Effect.{commanded_effects, effects};
 ghost use Rattle.scmi_core.specs.Plain.{IsNoReport, IsPlain};
 ghost use Rattle.scmi_core.specs.declared.event.Event.{Event};
+ghost use Rattle.scmi_c.specs.Aside.{IsHeldBack};
 ghost use Rattle.scmi_c.specs.Calls.{HasHappened};
 ghost use Rattle.scmi_c.specs.Driven.{IsDriven, failures, refused_of};
+ghost use Rattle.scmi_c.specs.Kept.{HasNoneAside, Kept};
 ghost use Rattle.scmi_c.specs.Plain.{HasPlainHistory};
 ghost use Rattle.scmi_c.specs.Standing.{Held, StandsAt, board_of};
 
@@ -37,6 +42,18 @@ pub fn plain_histories()
     ensures made { (p : Held) → StandsAt p [] → HasPlainHistory p }
     ensures event { (p k : Held) (event : Event) → HasPlainHistory p → HasHappened p k event
         → IsPlain event → HasPlainHistory k }
+{
+    // Nothing to do: the clauses hold of every platform.
+}
+
+/// What is held back while commands are set aside. If none is, no frame is held back, so `scmi_ask`
+/// and its kin serve a program that sets nothing aside as if there were no such calls. A frame that
+/// is no message is never held back. It does nothing: its clauses are the laws.
+pub fn nothing_held_back()
+    ensures free { (p : Kept) (agent : ℕ) (frame : Frame) → HasNoneAside p
+        → ¬ (IsHeldBack p agent frame) }
+    ensures malformed { (p : Kept) (agent len header : ℕ) →
+        ¬ (IsHeldBack p agent (Malformed len header)) }
 {
     // Nothing to do: the clauses hold of every platform.
 }

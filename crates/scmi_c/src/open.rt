@@ -3,7 +3,7 @@ ghost use Rattle.std.specs.Prelude.{◌≡◌, ◌≢◌, ◌↔◌, ◌⊎◌, 
 ghost use Rattle.scmi_plan.specs.Plan.{IsValid};
 ghost use Rattle.scmi_c.specs.Board.{IsFault, board_of_text};
 ghost use Rattle.scmi_c.specs.Driven.{IsDriven};
-ghost use Rattle.scmi_c.specs.Kept.{IsUnasked};
+ghost use Rattle.scmi_c.specs.Kept.{IsFree};
 ghost use Rattle.scmi_c.specs.Standing.{IsCounted, StandsAt, board_of};
 ghost use Rattle.scmi_c.specs.declared.code.TheConstants.{DONE, IN_USE, MEMORY};
 
@@ -21,7 +21,7 @@ use std::alloc::Global;
 #[unsafe(no_mangle)]
 pub extern "C" fn scmi_platform_new(alloc: Global, platform: &mut Handle, board: &[u8]) -> u32
     ensures done { result ≡ DONE →
-        IsSomeAnd platform.new.value (λ p. IsUnasked p
+        IsSomeAnd platform.new.value (λ p. IsFree p
         × (board_of_text board.now ≡ Ok (board_of p.held)) × StandsAt p.held []
         × IsValid (board_of p.held) × (¬ (IsCounted p.held))) }
     ensures driven { result ≡ DONE → IsSomeAnd platform.new.value (λ p. IsDriven p.held []) }
@@ -49,7 +49,7 @@ pub extern "C" fn scmi_platform_new_recorded(
     board: &[u8],
 ) -> u32
     ensures done { result ≡ DONE →
-        IsSomeAnd platform.new.value (λ p. IsUnasked p
+        IsSomeAnd platform.new.value (λ p. IsFree p
         × (board_of_text board.now ≡ Ok (board_of p.held)) × StandsAt p.held []
         × IsValid (board_of p.held) × IsCounted p.held) }
     ensures driven { result ≡ DONE → IsSomeAnd platform.new.value (λ p. IsDriven p.held []) }
@@ -75,7 +75,7 @@ pub extern "C" fn scmi_platform_new_recorded(
 pub fn hold(alloc: Global, platform: &mut Handle, plan: Plan, is_counted: bool) -> u32
     requires { platform.old.value ≡ None }
     ensures done { result ≡ DONE →
-        IsSomeAnd platform.new.value (λ p. IsUnasked p × (board_of p.held ≡ plan)
+        IsSomeAnd platform.new.value (λ p. IsFree p × (board_of p.held ≡ plan)
         × StandsAt p.held [] × (IsCounted p.held ↔ (is_counted ≡ true))) }
     ensures driven { result ≡ DONE → IsSomeAnd platform.new.value (λ p. IsDriven p.held []) }
     ensures errors { (result ≡ DONE) ⊎ (result ≡ MEMORY) }

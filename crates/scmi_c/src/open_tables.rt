@@ -2,7 +2,7 @@
 ghost use Rattle.std.specs.Prelude.{◌≡◌, ◌≢◌, ◌↔◌, ◌⊎◌, [], None, Ok, Err, IsSomeAnd, false};
 ghost use Rattle.scmi_plan.specs.Plan.{IsValid};
 ghost use Rattle.scmi_c.specs.Driven.{IsDriven};
-ghost use Rattle.scmi_c.specs.Kept.{IsUnasked};
+ghost use Rattle.scmi_c.specs.Kept.{IsFree};
 ghost use Rattle.scmi_c.specs.Standing.{IsCounted, StandsAt, board_of};
 ghost use Rattle.scmi_c.specs.Tables.{board_of_tables, is_well_formed, tables_given, IsTableFault};
 ghost use Rattle.scmi_c.specs.declared.code.TheConstants.{DONE, IN_USE, MEMORY, TABLE};
@@ -31,7 +31,7 @@ pub extern "C" fn scmi_platform_new_of_tables(
     devices: &[DeviceRow],
 ) -> u32
     ensures done { result ≡ DONE →
-        IsSomeAnd platform.new.value (λ p. IsUnasked p
+        IsSomeAnd platform.new.value (λ p. IsFree p
         × (board_of_tables
         (tables_given heading.now agents.now domains.now clocks.now rates.now devices.now)
         ≡ Ok (board_of p.held)) × StandsAt p.held []

@@ -34,4 +34,7 @@ pub enum Refusal {
     /// The command is of a protocol that the firmware answers.
     #[error("the command is for the firmware to answer")]
     Other = 11,
+    /// The frame is held back while a command is set aside.
+    #[error("the frame is held back while a command is set aside")]
+    Asked = 12,
 }

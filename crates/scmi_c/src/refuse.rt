@@ -8,7 +8,7 @@ ghost use Rattle.scmi_core.specs.declared.event.Event.TheVariants.{AdvanceFailed
 ghost use Rattle.scmi_c.specs.Calls.{HasFailed, HasHappened};
 ghost use Rattle.scmi_c.specs.Driven.{Drives, Says};
 ghost use Rattle.scmi_c.specs.Fault.{fault_said};
-ghost use Rattle.scmi_c.specs.Kept.{IsAsked, IsUnasked};
+ghost use Rattle.scmi_c.specs.Kept.{HasSameAside, IsAsked, IsUnasked};
 ghost use Rattle.scmi_c.specs.Standing.{StandsAt, board_of};
 ghost use Rattle.scmi_c.specs.Words.{HasFailedWords, HasRoom, LacksRoom};
 ghost use Rattle.scmi_c.specs.declared.code.TheConstants.{ASKED, DONE, NOTHING, NO_PLATFORM, WRONG_SIZE, WRONG_STATUS};
@@ -49,6 +49,7 @@ pub extern "C" fn scmi_refuse(
         IsSomeAnd (fault_said status) (λ fault.
         IsSomeAnd p.asked (λ asked.
         Says (λ change. Refused change fault) asked.change p.held k.held)))) }
+    ensures aside { HasSameAside platform.old.value platform.new.value }
     ensures no_platform { (result ≡ NO_PLATFORM) ↔ (platform.old.value ≡ None) }
     ensures nothing { (result ≡ NOTHING) ↔ IsSomeAnd platform.old.value IsUnasked }
     ensures wrong_size { (result ≡ WRONG_SIZE) ↔ IsSomeAnd platform.old.value (λ p.
@@ -90,6 +91,7 @@ pub extern "C" fn scmi_refuse_in(
         IsSomeAnd (fault_said status) (λ fault.
         IsSomeAnd p.asked (λ asked.
         Says (λ change. Refused change fault) asked.change p.held k.held)))) }
+    ensures aside { HasSameAside platform.old.value platform.new.value }
     ensures no_platform { (result ≡ NO_PLATFORM) ↔ (platform.old.value ≡ None) }
     ensures nothing { (result ≡ NOTHING) ↔ IsSomeAnd platform.old.value IsUnasked }
     ensures wrong_size { (result ≡ WRONG_SIZE) ↔ IsSomeAnd platform.old.value (λ p.
@@ -138,6 +140,7 @@ pub extern "C" fn scmi_refuse_words(
         IsSomeAnd (fault_said status) (λ fault.
         IsSomeAnd p.asked (λ asked.
         Says (λ change. Refused change fault) asked.change p.held k.held)))) }
+    ensures aside { HasSameAside platform.old.value platform.new.value }
     ensures no_platform { (result ≡ NO_PLATFORM) ↔ (platform.old.value ≡ None) }
     ensures nothing { (result ≡ NOTHING) ↔ IsSomeAnd platform.old.value IsUnasked }
     ensures wrong_size { (result ≡ WRONG_SIZE) ↔ IsSomeAnd platform.old.value (λ p.
@@ -182,6 +185,7 @@ pub extern "C" fn scmi_refuse_advance(alloc: Global, platform: &mut Handle, stat
     ensures asked { (result ≡ ASKED) ↔ IsSomeAnd platform.old.value IsAsked }
     ensures errors { (result ≤ NOTHING) ⊎ (result ≡ NO_PLATFORM) ⊎ (result ≡ ASKED) ⊎
         (result ≡ WRONG_STATUS) }
+    ensures aside { HasSameAside platform.old.value platform.new.value }
     ensures no_platform { (result ≡ NO_PLATFORM) ↔ (platform.old.value ≡ None) }
     ensures kept { result ≢ DONE → platform.new.value ≡ platform.old.value }
 {

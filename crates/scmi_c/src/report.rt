@@ -6,7 +6,7 @@ ghost use Rattle.scmi_core.specs.Value.{HasNoResource, HasNoState};
 ghost use Rattle.scmi_core.specs.declared.event.Event.TheVariants.{Reported};
 ghost use Rattle.scmi_c.specs.Calls.{HasHappened};
 ghost use Rattle.scmi_c.specs.Driven.{Drives, HappenInTurn};
-ghost use Rattle.scmi_c.specs.Kept.{IsAsked, IsUnasked};
+ghost use Rattle.scmi_c.specs.Kept.{HasSameAside, IsAsked, IsUnasked};
 ghost use Rattle.scmi_c.specs.Standing.{board_of};
 ghost use Rattle.scmi_c.specs.Tables.{is_set};
 ghost use Rattle.scmi_c.specs.declared.code.TheConstants.{ASKED, DONE, NO_PLATFORM, NO_RESOURCE, NO_STATE};
@@ -42,6 +42,7 @@ pub extern "C" fn scmi_domain_is(
     ensures no_state { (result ≡ NO_STATE) ↔ IsSomeAnd platform.old.value (λ p.
         IsUnasked p × HasNoState (board_of p.held) (State domain state)) }
     ensures asked { (result ≡ ASKED) ↔ IsSomeAnd platform.old.value IsAsked }
+    ensures aside { HasSameAside platform.old.value platform.new.value }
     ensures no_platform { (result ≡ NO_PLATFORM) ↔ (platform.old.value ≡ None) }
     ensures errors { (result ≡ DONE) ⊎ (result ≡ NO_PLATFORM) ⊎ (result ≡ ASKED) ⊎
         (result ≡ NO_RESOURCE) ⊎ (result ≡ NO_STATE) }
@@ -79,6 +80,7 @@ pub extern "C" fn scmi_clock_is(
     ensures no_resource { (result ≡ NO_RESOURCE) ↔ IsSomeAnd platform.old.value (λ p.
         IsUnasked p × HasNoResource (board_of p.held) (Rate clock (rate_of low high))) }
     ensures asked { (result ≡ ASKED) ↔ IsSomeAnd platform.old.value IsAsked }
+    ensures aside { HasSameAside platform.old.value platform.new.value }
     ensures no_platform { (result ≡ NO_PLATFORM) ↔ (platform.old.value ≡ None) }
     ensures errors { (result ≡ DONE) ⊎ (result ≡ NO_PLATFORM) ⊎ (result ≡ ASKED) ⊎
         (result ≡ NO_RESOURCE) }

@@ -7,7 +7,7 @@ ghost use Rattle.scmi_core.specs.declared.event.Event.TheVariants.{Sent};
 ghost use Rattle.scmi_c.specs.Standing.{LacksAgent, StandsAt, board_of};
 ghost use Rattle.scmi_c.specs.Calls.{HasPosted, HasHappened, HasNext, LacksNext};
 ghost use Rattle.scmi_c.specs.Driven.{Drives};
-ghost use Rattle.scmi_c.specs.Kept.{IsAsked, IsUnasked};
+ghost use Rattle.scmi_c.specs.Kept.{HasSameAside, IsAsked, IsUnasked};
 ghost use Rattle.scmi_c.specs.declared.code.TheConstants.{ASKED, DONE, NOTHING, MEMORY, NO_AGENT, NOT_FREE, NO_PLATFORM};
 
 use crate::area::post_next;
@@ -72,6 +72,7 @@ pub extern "C" fn scmi_sent(alloc: Global, platform: &mut Handle, agent: u32) ->
     ensures asked { (result ≡ ASKED) ↔ IsSomeAnd platform.old.value IsAsked }
     ensures errors { (result ≤ NOTHING) ⊎ (result ≡ NO_AGENT) ⊎
         (result ≡ NO_PLATFORM) ⊎ (result ≡ ASKED) }
+    ensures aside { HasSameAside platform.old.value platform.new.value }
     ensures no_platform { (result ≡ NO_PLATFORM) ↔ (platform.old.value ≡ None) }
     ensures kept { result ≢ DONE → platform.new.value ≡ platform.old.value }
 {

@@ -28,6 +28,7 @@ pub fn commit(desk: &mut Desk, area: &mut [u8], rate: u64) -> Result<(), Refusal
     ensures said { OnOk result (IsSomeAnd desk.old.asked (λ asked.
         Says Made asked.change desk.old.held desk.new.held)) }
     ensures unasked { OnOk result (IsUnasked desk.new) }
+    ensures aside { desk.new.aside ≡ desk.old.aside }
     ensures nothing { (result ≡ Err Refusal.Nothing) ↔ IsUnasked desk.old }
     ensures wrong_size { (result ≡ Err Refusal.WrongSize) ↔
         IsSomeAnd desk.old.asked (λ asked. asked.bytes ≢ length area.old) }
@@ -63,6 +64,7 @@ pub fn commit_words(
     ensures said { OnOk result (IsSomeAnd desk.old.asked (λ asked.
         Says Made asked.change desk.old.held desk.new.held)) }
     ensures unasked { OnOk result (IsUnasked desk.new) }
+    ensures aside { desk.new.aside ≡ desk.old.aside }
     ensures nothing { (result ≡ Err Refusal.Nothing) ↔ IsUnasked desk.old }
     ensures wrong_size { (result ≡ Err Refusal.WrongSize) ↔
         IsSomeAnd desk.old.asked (LacksRoom (length reply.old)) }

@@ -27,6 +27,7 @@ pub fn commit(desk: &mut Desk, reply: &mut [u32], count: &mut u32) -> Result<(),
     ensures clock { OnOk result (IsSomeAnd desk.old.asked (λ asked. IsRate asked.change →
         asked.change.id < length (board_of desk.new.held).clocks)) }
     ensures unasked { OnOk result (IsUnasked desk.new) }
+    ensures aside { desk.new.aside ≡ desk.old.aside }
     ensures nothing { (result ≡ Err Refusal.Nothing) ↔ IsUnasked desk.old }
     ensures wrong_size { (result ≡ Err Refusal.WrongSize) ↔
         IsSomeAnd desk.old.asked (LacksRoom (length reply.old)) }
@@ -70,6 +71,7 @@ pub fn fail(
     ensures said { OnOk result (IsSomeAnd fault (λ fault. IsSomeAnd desk.old.asked (λ asked.
         Says (λ change. Refused change fault) asked.change desk.old.held desk.new.held))) }
     ensures unasked { OnOk result (IsUnasked desk.new) }
+    ensures aside { desk.new.aside ≡ desk.old.aside }
     ensures nothing { (result ≡ Err Refusal.Nothing) ↔ IsUnasked desk.old }
     ensures wrong_size { (result ≡ Err Refusal.WrongSize) ↔
         IsSomeAnd desk.old.asked (LacksRoom (length reply.old)) }

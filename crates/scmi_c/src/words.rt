@@ -10,9 +10,12 @@ ghost use Rattle.scmi_c.specs.Calls.{IsAskedAbout};
 ghost use Rattle.scmi_c.specs.Channel.{bytes_of};
 ghost use Rattle.scmi_c.specs.Driven.{Drives, IsUnsaid};
 ghost use Rattle.scmi_c.specs.Other.{is_other};
+ghost use Rattle.scmi_c.specs.Aside.{IsHeldBackAt, IsMarked, KeepsSpared};
+ghost use Rattle.scmi_c.specs.Kept.{AreAskable, aside_by};
 ghost use Rattle.scmi_c.specs.Standing.{LacksAgent, StandsAt, board_of};
 ghost use Rattle.scmi_c.specs.Words.{FitsWords, HasAnsweredWords, LacksWords, count_of, frame_in, words_after};
 
+use crate::aside::Aside;
 use crate::desk::Exchange;
 use crate::held::Held;
 use crate::refusal::Refusal;
@@ -69,18 +72,21 @@ pub fn answer(
 }
 
 /// Executes the words of a message, as `answer`, if they change no hardware. Else gives what they
-/// are to change, and keeps them. It is refused as `Held::check_words` says, and by `Other` for a
-/// command that the firmware answers. Then nothing changed.
+/// are to change, and keeps them. It is refused as `Held::check_words` says, by `Asked` for what is
+/// held back by what is set aside, and by `Other` for a command that the firmware answers. Then
+/// nothing changed.
 #[tactic(auto, using(crate::proofs::Driving::drives_none))]
 #[inline(always)]
 pub fn ask(
     held: &mut Held,
     exchange: &mut Exchange,
+    aside: &Aside,
     agent: u32,
     message: &[u32],
     reply: &mut [u32],
     count: &mut u32,
 ) -> Result<Option<Effect>, Refusal>
+    requires { IsMarked aside.now }
     ensures effect { IfOk result (λ effect.
         (h : List Event) → StandsAt held.old h → effect
         ≡ effect_after (board_of held.old) h (Called agent (frame_in message.now))) }
@@ -91,19 +97,29 @@ pub fn ask(
     ensures asked { IfOk result (λ effect. effect ≢ None →
         (exchange.new.frame ≡ frame_in message.now) × (reply.new ≡ reply.old)
         × (count.new ≡ count.old) × IsAskedAbout held.old held.new agent) }
+    ensures apart { IfOk result (λ effect. effect ≢ None →
+        aside_by aside.now.slots agent ≡ None) }
+    ensures aside { AreAskable held.old (aside_by aside.now.slots) →
+        AreAskable held.new (aside_by aside.now.slots) }
+    ensures held_back { (result ≡ Err Refusal.Asked)
+        ↔ (FitsWords agent (length message.now) (length reply.old) held.old
+        × IsHeldBackAt held.old (aside_by aside.now.slots) agent (frame_in message.now)) }
     ensures no_agent { (result ≡ Err Refusal.NoAgent) ↔ LacksAgent agent held.old }
     ensures wrong_size { (result ≡ Err Refusal.WrongSize)
         ↔ LacksWords agent (length message.now) (length reply.old) held.old }
     ensures other { (result ≡ Err Refusal.Other)
         ↔ (FitsWords agent (length message.now) (length reply.old) held.old
-        × (is_other (board_of held.old) (frame_in message.now) ≡ true)) }
-    ensures errors { IfErr result (λ e.
-        (e ≡ Refusal.NoAgent) ⊎ (e ≡ Refusal.WrongSize) ⊎ (e ≡ Refusal.Other)) }
+        × (is_other (board_of held.old) (frame_in message.now) ≡ true)
+        × (¬ (IsHeldBackAt held.old (aside_by aside.now.slots) agent
+        (frame_in message.now)))) }
+    ensures errors { IfErr result (λ e. (e ≡ Refusal.NoAgent) ⊎ (e ≡ Refusal.WrongSize) ⊎
+        (e ≡ Refusal.Asked) ⊎ (e ≡ Refusal.Other)) }
     ensures err { OnErr result (held.new ≡ held.old) }
     ensures kept { OnErr result ((reply.new ≡ reply.old) × (count.new ≡ count.old)) }
 {
     held.check_words(agent, message.len(), reply.len())?;
     read_words(message, &mut exchange.frame);
+    held.check_aside(aside, agent, &exchange.frame)?;
     let effect = held.effect_of(agent, &exchange.frame)?;
     if effect.is_none() {
         execute(held, exchange, agent, message, reply, count);
@@ -128,6 +144,7 @@ fn execute(
     ensures answered { HasAnsweredWords held.old held.new agent (frame_in message.now)
         count.new reply.old reply.new }
     ensures unsaid { IsUnsaid held.old held.new agent (frame_in message.now) }
+    ensures spared { KeepsSpared (frame_in message.now) held.old held.new }
 {
     let _ = held.command(agent, &exchange.frame, &mut exchange.reply);
     *count = put_words(reply, message[0], exchange.reply.payload.as_slice());

@@ -34,31 +34,31 @@ pub const PLACES: usize = 255;
 pub fn check_record<B: Read, R: Read, N: Names, L: Listener>(
     alloc: Global,
     board: &mut B,
-    record: &mut R,
+    source: &mut R,
     options: CheckOptions<'_>,
     names: &N,
     listener: &mut L,
 ) -> Result<Checked, CheckError>
     ensures checked { IfOk result (GivesCheckedRecord (N.means names.now) options.entry
-        (B.remaining board.old) (R.remaining record.old) (L.judged listener.old)
+        (B.remaining board.old) (R.remaining source.old) (L.judged listener.old)
         (L.judged listener.new) (L.noted listener.old) (L.noted listener.new)) }
     ensures faults { IfErr result (IsFaultOf (N.means names.now) options.entry
-        (B.remaining board.old) (R.remaining record.old)) }
+        (B.remaining board.old) (R.remaining source.old)) }
     ensures alone { IfErr result (λ e. IsOfBoard e → listener.new ≡ listener.old) }
     ensures before { IfErr result (λ e. IsAtLine e → GivesBeforeFault (N.means names.now)
-        options.entry (B.remaining board.old) (R.remaining record.old) e (L.judged listener.old)
+        options.entry (B.remaining board.old) (R.remaining source.old) e (L.judged listener.old)
         (L.judged listener.new) (L.noted listener.old) (L.noted listener.new)) }
 {
     let Said { text, plan } = read_board(alloc, board)?;
     let judge = judge_of(alloc, &text, &plan, options.unseen)?;
     let check = Check::new(alloc, options.protocols, plan.agents(), judge);
-    check_lines(alloc, record, names, check, listener)
+    check_lines(alloc, source, names, check, listener)
 }
 
 /// Reads the lines of a record up to its end, and checks each.
 fn check_lines<R: Read, N: Names, L: Listener>(
     alloc: Global,
-    record: &mut R,
+    source: &mut R,
     names: &N,
     mut check: Check<'_>,
     listener: &mut L,
@@ -66,23 +66,23 @@ fn check_lines<R: Read, N: Names, L: Listener>(
     ensures found { (protocols : List ℕ) (may : Hidden) (board : Board)
         → IsUnderWay may board (nothing_shown protocols) [] [] check.entry
         → IfOk result (GivesFound (N.means names.now) protocols may board
-        (R.remaining record.old) (L.judged listener.old) (L.judged listener.new)
+        (R.remaining source.old) (L.judged listener.old) (L.judged listener.new)
         (L.noted listener.old) (L.noted listener.new)) }
     ensures faults { (protocols : List ℕ) (may : Hidden) (board : Board)
         → IsUnderWay may board (nothing_shown protocols) [] [] check.entry
-        → IfErr result (λ e. IfSome (R.remaining record.old)
+        → IfErr result (λ e. IfSome (R.remaining source.old)
         (λ text. IsFaultOfRecord (N.means names.now) protocols board text e)) }
     ensures alone { (protocols : List ℕ) (may : Hidden) (board : Board)
         → IsUnderWay may board (nothing_shown protocols) [] [] check.entry
         → IfErr result (λ e. ¬ (IsOfBoard e)) }
     ensures before { (protocols : List ℕ) (may : Hidden) (board : Board)
         → IsUnderWay may board (nothing_shown protocols) [] [] check.entry
-        → IfErr result (λ e. IsAtLine e → IfSome (R.remaining record.old)
+        → IfErr result (λ e. IsAtLine e → IfSome (R.remaining source.old)
         (λ text. GivesBefore (N.means names.now) protocols may board e text
         (L.judged listener.old) (L.judged listener.new) (L.noted listener.old)
         (L.noted listener.new))) }
 {
-    let reader = CountedReader::new(record);
+    let reader = CountedReader::new(source);
     let mut input = Input::new(reader);
     let mut text = Vec::new(alloc);
     let mut number = 0u32;

@@ -26,20 +26,20 @@ pub const PROTOCOLS: [u8; 3] = [BASE_PROTOCOL, POWER_PROTOCOL, CLOCK_PROTOCOL];
 pub fn run_check<B: Read, R: Read, N: Names, W: Write>(
     alloc: Global,
     board: &mut B,
-    record: &mut R,
+    source: &mut R,
     options: CheckOptions<'_>,
     names: &N,
     writer: &mut W,
     style: Style,
 ) -> u8
     ensures checked { HasVerdict result → IsChecked (N.means names.now) options.entry
-        (B.remaining board.old) (R.remaining record.old) result }
+        (B.remaining board.old) (R.remaining source.old) result }
     ensures fault { ¬ (HasVerdict result) → result ≢ 1 → EndsWithFault (N.means names.now)
-        options.entry (B.remaining board.old) (R.remaining record.old) result
+        options.entry (B.remaining board.old) (R.remaining source.old) result
         (W.contents writer.old) (W.contents writer.new) }
 {
     let mut report = Report::new(writer, style, options.unseen.refusals);
-    let checked = match check_record(alloc, board, record, options, names, &mut report) {
+    let checked = match check_record(alloc, board, source, options, names, &mut report) {
         Ok(checked) => checked,
         Err(fault) => return write_fault(writer, &fault, fault.status()),
     };

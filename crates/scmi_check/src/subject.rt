@@ -1,7 +1,6 @@
 //! The power domain or clock that an entry is about.
 use scmi_codec::{
-    ClockCommand, Command, DELAYED_RESPONSE, Frame, Message, NOTIFICATION, POWER_PROTOCOL, Part,
-    PowerCommand, Status, listed_row,
+    Command, DELAYED_RESPONSE, Frame, Message, NOTIFICATION, POWER_PROTOCOL, Part, listed_row,
 };
 use scmi_judge::{Entry, has_succeeded, sets_value};
 use scmi_plan::Resource;
@@ -20,7 +19,7 @@ pub(crate) fn subject_of(entry: &Entry) -> Option<Resource> {
         | Entry::Replied {
             frame: Frame::Good(command),
             ..
-        } => command_subject(&Command::read(command)),
+        } => command_subject(command),
         Entry::Answered { .. }
         | Entry::Replied { .. }
         | Entry::Asked { .. }
@@ -46,53 +45,42 @@ pub(crate) fn is_set(entry: &Entry) -> bool {
     }
 }
 
-/// What a command names that was read so.
-fn command_subject(command: &Result<Command, Status>) -> Option<Resource> {
-    match command {
-        Ok(Command::Power(power)) => domain_named(power),
-        Ok(Command::Clock(clock)) => clock_named(clock),
-        _ => None,
+/// What a command names, if it is one.
+fn command_subject(command: &Message) -> Option<Resource> {
+    if Command::read(command).is_err() {
+        return None;
     }
+    let header = &command.header;
+    let row = listed_row(header.protocol(), u32::from(header.id()))?;
+    named_in(row.asks, command.payload.as_slice())
 }
 
-fn domain_named(command: &PowerCommand) -> Option<Resource> {
-    match command {
-        PowerCommand::DomainAttributes { domain }
-        | PowerCommand::Set { domain, .. }
-        | PowerCommand::Get { domain }
-        | PowerCommand::Notify { domain, .. } => Some(Resource::Domain(*domain)),
-        _ => None,
-    }
-}
-
-fn clock_named(command: &ClockCommand) -> Option<Resource> {
-    match command {
-        ClockCommand::ClockAttributes { clock }
-        | ClockCommand::Describe { clock, .. }
-        | ClockCommand::SetRate { clock, .. }
-        | ClockCommand::GetRate { clock }
-        | ClockCommand::Config { clock, .. } => Some(Resource::Clock(*clock)),
-        _ => None,
-    }
-}
-
-/// What a message of the platform names, by its second word: that of a delayed response is the first
-/// part after its status.
+/// What a message of the platform names, in the words behind its first: in a delayed response that
+/// is its status, in a notification the agent that caused it.
 fn message_subject(message: &Message) -> Option<Resource> {
-    let [_, word, ..] = message.payload.as_slice() else {
+    let [_, words @ ..] = message.payload.as_slice() else {
         return None;
     };
     let header = &message.header;
     let (kind, protocol, id) = (header.kind(), header.protocol(), header.id());
     if kind == NOTIFICATION && protocol == POWER_PROTOCOL && id == POWER_STATE_CHANGED {
-        return Some(Resource::Domain(*word));
+        return named_in(&[Part::Domain], words);
     }
     if kind != DELAYED_RESPONSE {
         return None;
     }
-    match listed_row(protocol, u32::from(id))?.later {
-        [Part::Domain, ..] => Some(Resource::Domain(*word)),
-        [Part::Clock, ..] => Some(Resource::Clock(*word)),
-        _ => None,
+    named_in(listed_row(protocol, u32::from(id))?.later, words)
+}
+
+/// The first domain or clock among parts, by the word in its place: the parts before it are a word
+/// each.
+fn named_in(parts: &[Part], words: &[u32]) -> Option<Resource> {
+    for (part, word) in parts.iter().zip(words.iter()) {
+        match part {
+            Part::Domain => return Some(Resource::Domain(*word)),
+            Part::Clock => return Some(Resource::Clock(*word)),
+            _ => {}
+        }
     }
+    None
 }

@@ -6,3 +6,4 @@ pub mod ListRates
 pub mod Flags
 pub mod ReplySame
 pub mod RoundingExamples
+pub mod ClockLaws

@@ -69,6 +69,11 @@ rate_later board (clock.SetRate flags c rate) =
     if is_asynchronous flags then Some (c, set_rate board flags c rate, is_response_wanted flags) else None
 rate_later board _ = None
 
+-- the clock whose rate a command sets
+abbrev pub set_clock : ClockCommand → Option ℕ
+set_clock (clock.SetRate flags c rate) = Some c
+set_clock _ = None
+
 -- the clock and enabled bit that it sets
 abbrev pub enabled_now : ClockCommand → Option (ℕ × Bool)
 enabled_now (clock.Config c attributes) = Some (c, bit_0 attributes)

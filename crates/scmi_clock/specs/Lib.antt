@@ -2,3 +2,4 @@ pub mod Rounding
 pub mod SetFlags
 pub mod ClockReply
 pub mod ClockTable
+pub mod ClockProtocol

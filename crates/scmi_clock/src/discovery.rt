@@ -11,13 +11,10 @@ use crate::checks::{check_clock, check_index};
 use crate::clock_state::ClockState;
 use arrayvec::ArrayVec;
 use scmi_codec::{
-    CLOCK_PROTOCOL, Payload, SUCCESS, Status, is_listed, name_words, rate_words, resize,
-    set_payload, set_refusal,
+    CLOCK_PROTOCOL, CLOCK_VERSION, Payload, SUCCESS, Status, is_listed, name_words, rate_words,
+    resize, set_payload, set_refusal,
 };
 use scmi_plan::{AgentChannel, Plan, Rates};
-
-/// The version of the clock protocol: major 1, minor 0 (own).
-const VERSION: u32 = 0x0001_0000;
 
 /// The flags word of a triplet: bit 12, and three rates.
 const TRIPLET: u32 = 0x1003;
@@ -26,7 +23,7 @@ const TRIPLET: u32 = 0x1003;
 pub(crate) fn version(reply: &mut Payload)
     ensures { reply.new.items ≡ 0 ∷ 0x00010000 ∷ [] }
 {
-    set_payload(reply, &[SUCCESS, VERSION]);
+    set_payload(reply, &[SUCCESS, CLOCK_VERSION]);
 }
 
 /// 0x1: the most pending sets of the caller in bits [23:16], none if the platform can't send to it

@@ -1,6 +1,6 @@
 -- The numbers of the standard and of the profile that code and definitions share, each as it is written there.
 use Rattle.std.proofs.Common.{◌≡◌, ℕ, List, [], ◌∷◌, codes, map, refl}
-use Rattle.scmi_codec.specs.Listing.{rows_of, words_of}
+use Rattle.scmi_codec.specs.Listing.{protocols, rows_of, words_of}
 use Rattle.scmi_codec.specs.Status.{status_word, status_name}
 use Rattle.scmi_codec.specs.declared.area.TheConstants.{AREA_BYTES}
 use Rattle.scmi_codec.specs.declared.base_command.TheConstants.{BASE_PROTOCOL}
@@ -81,3 +81,11 @@ clock_messages
     ≡ (0x0, 0, 1, 0) ∷ (0x1, 0, 1, 0) ∷ (0x2, 1, 1, 0) ∷ (0x3, 1, 5, 0) ∷ (0x4, 2, 1, 0) ∷ (0x5, 4, 0, 3) ∷ (0x6, 1, 2, 0) ∷ (0x7, 2, 0, 0) ∷ []
 unfolding words_listed rows_of
 clock_messages = refl
+
+-- of each protocol its id, name and version
+protocols_listed : List (ℕ × List ℕ × ℕ)
+protocols_listed = map (λ row. (row.id, row.name, row.version)) protocols
+
+protocol_rows : protocols_listed ≡ (0x10, codes "base", 0x00020000) ∷ (0x11, codes "power", 0x00020000) ∷ (0x14, codes "clock", 0x00010000) ∷ []
+unfolding protocols_listed
+protocol_rows = refl

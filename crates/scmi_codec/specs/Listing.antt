@@ -8,7 +8,8 @@ use Rattle.scmi_codec.specs.declared.status.Status.TheVariants.{ProtocolError, N
 use Rattle.scmi_codec.specs.declared.messages.Part.{Part}
 use Rattle.scmi_codec.specs.declared.messages.Part.TheVariants as part
 use Rattle.scmi_codec.specs.declared.messages.MessageRow.{MessageRow}
-use Rattle.scmi_codec.specs.declared.messages.TheConstants.{BASE_MESSAGES, POWER_MESSAGES, CLOCK_MESSAGES}
+use Rattle.scmi_codec.specs.declared.protocols.ProtocolRow.{ProtocolRow}
+use Rattle.scmi_codec.specs.declared.protocols.TheConstants.{PROTOCOLS}
 
 -- a message: id, name, the parts of its payload, of its reply and of its delayed response behind their status
 abbrev pub Said : Type 0
@@ -22,23 +23,50 @@ HeldRow = MessageRow (Bor (List ℕ)) (Bor (List Part))
 abbrev pub said : HeldRow → Said
 said row = record { id = row.id; name = row.name.now; asks = row.asks.now; gives = row.gives.now; later = row.later.now }
 
+-- a protocol: id, short name, version, and its messages
+abbrev pub Protocol : Type 0
+Protocol = ProtocolRow (List ℕ) (List Said)
+
+-- a protocol's row as the program has it
+abbrev pub HeldProtocol : Type 0
+HeldProtocol = ProtocolRow (Bor (List ℕ)) (Bor (List HeldRow))
+
+-- what a protocol's row says
+abbrev pub protocol_said : HeldProtocol → Protocol
+protocol_said row = record { id = row.id; name = row.name.now; version = row.version; messages = map said row.messages.now }
+
+-- the protocols of the profile
+abbrev pub protocols : List Protocol
+protocols = map (λ p. record { id = p.id; name = p.name.now; version = p.version; messages = map (λ r. record { id = r.id; name = r.name.now; asks = r.asks.now; gives = r.gives.now; later = r.later.now }) p.messages.now }) PROTOCOLS
+
+-- the first row of an id
+abbrev pub protocol_in : ℕ → List Protocol → Option Protocol
+protocol_in id [] = None
+protocol_in id (row ∷ rows) = if row.id == id then Some row else protocol_in id rows
+
+-- the row of a protocol
+abbrev pub protocol_row : ℕ → Option Protocol
+protocol_row id = protocol_in id protocols
+
+-- the messages of a protocol of the profile
+abbrev pub messages_of : ℕ → List Said
+messages_of protocol = option_map_or (λ row. row.messages) (protocol_row protocol) []
+
 -- the messages of the base protocol
 abbrev pub base_rows : List Said
-base_rows = map (λ r. record { id = r.id; name = r.name.now; asks = r.asks.now; gives = r.gives.now; later = r.later.now }) BASE_MESSAGES
+base_rows = messages_of 0x10
 
 -- the messages of the power domain protocol
 abbrev pub power_rows : List Said
-power_rows = map (λ r. record { id = r.id; name = r.name.now; asks = r.asks.now; gives = r.gives.now; later = r.later.now }) POWER_MESSAGES
+power_rows = messages_of 0x11
 
 -- the messages of the clock protocol
 abbrev pub clock_rows : List Said
-clock_rows = map (λ r. record { id = r.id; name = r.name.now; asks = r.asks.now; gives = r.gives.now; later = r.later.now }) CLOCK_MESSAGES
+clock_rows = messages_of 0x14
 
--- the messages of a protocol
+-- the messages of a protocol; none of one that is not of the profile
 unfoldable pub rows_of : ℕ → List Said
-rows_of protocol =
-    if protocol == 0x10 then base_rows else if protocol == 0x11 then power_rows
-    else if protocol == 0x14 then clock_rows else []
+rows_of protocol = messages_of protocol
 
 -- the first row of an id
 abbrev pub row_in : ℕ → List Said → Option Said

@@ -9,6 +9,9 @@ use crate::status::Status;
 /// The id of the base protocol.
 pub const BASE_PROTOCOL: u8 = 0x10;
 
+/// The version of the base protocol: major 2, minor 0.
+pub const BASE_VERSION: u32 = 0x0002_0000;
+
 /// A command of the base protocol (DEN0056B, base protocol).
 #[derive(Clone, Copy, PartialEq, Eq, Debug)]
 pub enum BaseCommand {

@@ -10,6 +10,9 @@ use crate::status::Status;
 /// The id of the clock protocol.
 pub const CLOCK_PROTOCOL: u8 = 0x14;
 
+/// The version of the clock protocol: major 1, minor 0 (own).
+pub const CLOCK_VERSION: u32 = 0x0001_0000;
+
 /// A command of the clock protocol (DEN0056B, clock management protocol). Rates are in Hz.
 #[derive(Clone, Copy, PartialEq, Eq, Debug)]
 pub enum ClockCommand {

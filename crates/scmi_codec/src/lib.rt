@@ -26,6 +26,7 @@ mod messages;
 mod name;
 mod payload;
 mod power_command;
+mod protocols;
 mod rate;
 mod rate_flags;
 mod status;
@@ -36,7 +37,7 @@ pub use area::{
     write_answer, write_message, write_reply, write_response,
 };
 pub use area_reader::status_at;
-pub use base_command::{BASE_PROTOCOL, BaseCommand};
+pub use base_command::{BASE_PROTOCOL, BASE_VERSION, BaseCommand};
 pub use channel_area::{
     ChannelAreaError, LEAST_AREA_BYTES, LEAST_PAYLOAD_WORDS, channel_bytes, channel_frame,
     channel_words, is_channel_free, is_channel_size, read_channel_area, read_channel_area_into,
@@ -44,7 +45,7 @@ pub use channel_area::{
     write_channel_response,
 };
 pub use channel_status::ChannelStatus;
-pub use clock_command::{CLOCK_PROTOCOL, ClockCommand};
+pub use clock_command::{CLOCK_PROTOCOL, CLOCK_VERSION, ClockCommand};
 pub use command::Command;
 pub use fault::Fault;
 pub use flag_word::single_flag;
@@ -58,7 +59,8 @@ pub use payload::{
     PAYLOAD_WORDS, Payload, SUCCESS, is_success, payload_of, refusal, resize, set_payload,
     set_refusal,
 };
-pub use power_command::{POWER_PROTOCOL, PowerCommand};
+pub use power_command::{POWER_PROTOCOL, POWER_VERSION, PowerCommand};
+pub use protocols::{HeldProtocol, PROTOCOLS, ProtocolRow, protocol_row};
 pub use rate::{rate_of, rate_words};
 pub use rate_flags::RateFlags;
 pub use status::{STATUSES, Status, StatusRow};

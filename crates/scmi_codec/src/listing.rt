@@ -5,8 +5,9 @@ ghost use Rattle.scmi_codec.specs.Listing.{said, rows_of, row_in, listed_row, me
 
 use crate::base_command::BASE_PROTOCOL;
 use crate::clock_command::CLOCK_PROTOCOL;
-use crate::messages::{BASE_MESSAGES, CLOCK_MESSAGES, HeldRow, POWER_MESSAGES, Part};
+use crate::messages::{HeldRow, Part};
 use crate::power_command::POWER_PROTOCOL;
+use crate::protocols::protocol_row;
 use crate::status::Status;
 
 /// The name of a message that a command of the profile has; `None` for any other.
@@ -69,12 +70,10 @@ pub fn listed_row(protocol: u8, id: u32) -> Option<HeldRow>
 pub fn rows_of(protocol: u8) -> &'static [HeldRow]
     ensures { map said result.now ≡ rows_of protocol }
 {
-    match protocol {
-        BASE_PROTOCOL => &BASE_MESSAGES,
-        POWER_PROTOCOL => &POWER_MESSAGES,
-        CLOCK_PROTOCOL => &CLOCK_MESSAGES,
-        _ => &[],
-    }
+    let Some(row) = protocol_row(protocol) else {
+        return &[];
+    };
+    row.messages
 }
 
 /// The first row of an id.

@@ -9,6 +9,9 @@ use crate::status::Status;
 /// The id of the power domain protocol.
 pub const POWER_PROTOCOL: u8 = 0x11;
 
+/// The version of the power domain protocol: major 2, minor 0.
+pub const POWER_VERSION: u32 = 0x0002_0000;
+
 /// A command of the power domain protocol (DEN0056B, power domain management protocol).
 #[derive(Clone, Copy, PartialEq, Eq, Debug)]
 pub enum PowerCommand {

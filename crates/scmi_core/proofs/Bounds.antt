@@ -1,28 +1,17 @@
 -- In every legal history at most 8 sets are pending, and an outbox and its agent's pending sets are at most 16 together.
-use Rattle.std.proofs.Common.{◌≡◌, ◌≢◌, ◌⊎◌, inl, inr, ℕ, suc, ◌+◌, ◌<◌, ◌≤◌, ◌==◌, ◌&&◌, ◌||◌, nat_lt, Bool, true, false, not, List, [], ◌∷◌, ◌++◌, length, drop, map, slice_get, Option, Some, None, Result, Ok, Err, option_map, refl, sym, ap, ◌∙◌, subst, arith, if◌then◌else◌}
+use Rattle.std.proofs.Common.{◌≡◌, ◌≢◌, ◌⊎◌, inl, inr, ℕ, suc, ◌+◌, ◌<◌, ◌≤◌, ◌==◌, ◌&&◌, nat_lt, Bool, true, false, not, List, [], ◌∷◌, ◌++◌, length, drop, map, slice_get, Option, Some, None, Result, refl, sym, ap, ◌∙◌, subst, arith, if◌then◌else◌}
 use Rattle.std.specs.Option.{option_map_or}
 use Rattle.std.proofs.lemmas.List.{append-nil, length-append, length-drop, length-map}
 use Rattle.std.proofs.lemmas.List.Elements.{filter-append}
 use Rattle.std.proofs.lemmas.Bool.{leb-true}
 use Rattle.std.proofs.lemmas.Bool.Decides.{eqb_tells}
 use Rattle.scmi_plan.specs.Board.{Board}
-use Rattle.scmi_codec.specs.Reply.{reply_unless, bit_0}
 use Rattle.scmi_codec.specs.Header.{HeaderFields}
 use Rattle.scmi_codec.specs.Payload.{begins_with_success}
 use Rattle.scmi_codec.specs.declared.status.Status.{Status}
-use Rattle.scmi_codec.specs.declared.status.Status.TheVariants.{NotFound, InvalidParameters, NotSupported, Denied, Busy}
 use Rattle.scmi_codec.specs.declared.message.Message.{Message}
 use Rattle.scmi_codec.specs.declared.frame.Frame.TheVariants.{Good, Malformed}
 use Rattle.scmi_codec.specs.declared.command.Command as codec
-use Rattle.scmi_codec.specs.declared.command.Command.TheVariants.{Base, Power, Clock}
-use Rattle.scmi_codec.specs.declared.power_command.PowerCommand.{PowerCommand}
-use Rattle.scmi_codec.specs.declared.power_command.PowerCommand.TheVariants as power
-use Rattle.scmi_codec.specs.declared.clock_command.ClockCommand.{ClockCommand}
-use Rattle.scmi_codec.specs.declared.clock_command.ClockCommand.TheVariants as clock
-use Rattle.scmi_power.specs.PowerReply.{PowerView, power_reply}
-use Rattle.scmi_power.specs.PowerTable.{set_later}
-use Rattle.scmi_clock.specs.ClockReply.{ClockView, clock_reply}
-use Rattle.scmi_clock.specs.ClockTable.{rate_later}
 use Rattle.scmi_core.specs.declared.pending_set.PendingSet.{PendingSet}
 use Rattle.scmi_core.specs.declared.event.Event.{Event}
 use Rattle.scmi_codec.specs.declared.fault.Fault.{Fault}
@@ -37,72 +26,14 @@ use Rattle.scmi_core.specs.History.{deeds, deed_after, outbox}
 use Rattle.scmi_core.specs.Legal.{IsLegal}
 use Rattle.scmi_core.specs.ReadCommand.{command_on}
 use Rattle.scmi_core.specs.Reply.{fits_channel, reply_words}
-use Rattle.scmi_core.specs.Situation.{Situation, has_room, power_view, clock_view}
+use Rattle.scmi_core.specs.Situation.{Situation, has_room}
 use Rattle.scmi_core.specs.Tables.{load_at}
 use Rattle.scmi_core.specs.Bounds.{HasBounds}
 use Rattle.scmi_core.specs.Agreement.{Agrees}
+use Rattle.scmi_core.proofs.Accepting.{accepted}
 use Rattle.scmi_core.proofs.Deeds.{added_success, made_by-unfailed, pending_left, pending_sets-push, pending_sets-advance, pending_sets-failed, outbox-push, sent_count-push}
 use Rattle.scmi_core.proofs.Legal.{Grown, empty, grow, grown, deeds-push, IsLegal-front, advances_le-accepted, sent_le-made}
 use Rattle.scmi_core.proofs.Situations.{messages_made-sent, nothing-made, outbox-restarted}
-
--- a set that is accepted for later met room
-room_of : (c1 c2 c3 c4 busy later room : Bool)
-    → begins_with_success (reply_unless ((c1, NotFound) ∷ (c2, InvalidParameters) ∷ (c3, NotSupported) ∷ (c4, Denied) ∷ (busy || (later && not room), Busy) ∷ []) (0 ∷ [])) ≡ true → later ≡ true → room ≡ true
-room_of true c2 c3 c4 busy later room ok l = absurd (cc)
-room_of false true c3 c4 busy later room ok l = absurd (cc)
-room_of false false true c4 busy later room ok l = absurd (cc)
-room_of false false false true busy later room ok l = absurd (cc)
-room_of false false false false true later room ok l = absurd (cc)
-room_of false false false false false true true ok l = refl
-room_of false false false false false true false ok l = absurd (cc)
-room_of false false false false false false room ok l = absurd (cc)
-
-later_bit : {A : Type 0} (b : Bool) (x : A) {y : A} → (if b then Some x else None) ≡ Some y → b ≡ true
-later_bit true x e = refl
-later_bit false x e = absurd (cc)
-
-mapped : {A B : Type 0} (f : A → B) (o : Option A) (y : B) → option_map f o ≡ Some y → (x : A) × (o ≡ Some x) × (f x ≡ y)
-mapped f None y e = absurd (cc)
-mapped f (Some x) y e = (x, refl, ap (λ o. option_map_or (λ z. z) o y) e)
-
-power-room : (board : Board) (v : PowerView) (c : PowerCommand) (set : ℕ × ℕ) → begins_with_success (power_reply board v c) ≡ true → set_later c ≡ Some set → v.room ≡ true
-unfolding power_reply
-power-room board v power.Version set ok e = absurd (cc)
-power-room board v power.Attributes set ok e = absurd (cc)
-power-room board v (power.MessageAttributes message) set ok e = absurd (cc)
-power-room board v (power.DomainAttributes d) set ok e = absurd (cc)
-power-room board v (power.Get d) set ok e = absurd (cc)
-power-room board v (power.Notify d enable) set ok e = absurd (cc)
-power-room board v (power.Set flags d state) set ok e = room_of _ _ _ _ _ (bit_0 flags) v.room ok (later_bit (bit_0 flags) (d, state) e)
-
-clock-room : (board : Board) (v : ClockView) (c : ClockCommand) (set : ℕ × ℕ × Bool) → begins_with_success (clock_reply board v c) ≡ true → rate_later board c ≡ Some set → v.room ≡ true
-unfolding clock_reply
-clock-room board v clock.Version set ok e = absurd (cc)
-clock-room board v clock.Attributes set ok e = absurd (cc)
-clock-room board v (clock.MessageAttributes message) set ok e = absurd (cc)
-clock-room board v (clock.ClockAttributes d) set ok e = absurd (cc)
-clock-room board v (clock.Describe d index) set ok e = absurd (cc)
-clock-room board v (clock.GetRate d) set ok e = absurd (cc)
-clock-room board v (clock.Config d attributes) set ok e = absurd (cc)
-clock-room board v (clock.SetRate flags d rate) set ok e = room_of _ _ _ _ _ (bit_0 flags) v.room ok (later_bit (bit_0 flags) _ e)
-
-then_some : {A B : Type 0} (b : Bool) (o : Option A) (f : A → Option B) (y : B) → option_and_then f (if b then o else None) ≡ Some y → (b ≡ true) × (option_and_then f o ≡ Some y)
-then_some true o f y e = (refl, e)
-then_some false o f y e = absurd (cc)
-
-accept-room : (board : Board) (b : ℕ) (h : List Deed) (header : HeaderFields) (r : Result codec.Command Status) (p : PendingSet)
-    → option_and_then (acceptance board) (if begins_with_success (reply_words board b (situation_after board b h) r) then success_with b header r else None) ≡ Some p → (p.agent ≡ b) × (has_room board b (situation_after board b h) ≡ true)
-unfolding reply_words
-accept-room board b h header (Err s) p e = let two = then_some (begins_with_success (reply_words board b (situation_after board b h) (Err s))) (success_with b header (Err s)) (acceptance board) p e in let no = two.1 in absurd (cc)
-accept-room board b h header (Ok (Base c)) p e = let two = then_some (begins_with_success (reply_words board b (situation_after board b h) (Ok (Base c)))) (success_with b header (Ok (Base c))) (acceptance board) p e in let no = two.1 in absurd (cc)
-accept-room board b h header (Ok (Power c)) p e =
-    let two = then_some (begins_with_success (reply_words board b (situation_after board b h) (Ok (Power c)))) (success_with b header (Ok (Power c))) (acceptance board) p e in
-    let set = mapped _ (set_later c) p two.1 in
-    (sym (ap (λ q. q.agent) set.2), power-room board (power_view board b (situation_after board b h)) c set.0 two.0 set.1)
-accept-room board b h header (Ok (Clock c)) p e =
-    let two = then_some (begins_with_success (reply_words board b (situation_after board b h) (Ok (Clock c)))) (success_with b header (Ok (Clock c))) (acceptance board) p e in
-    let set = mapped _ (rate_later board c) p two.1 in
-    (sym (ap (λ q. q.agent) set.2), clock-room board (clock_view board b (situation_after board b h)) c set.0 two.0 set.1)
 
 both_true : (a b : Bool) → (a && b) ≡ true → (a ≡ true) × (b ≡ true)
 both_true true true e = (refl, refl)
@@ -180,7 +111,7 @@ fits-some board h b p had by room =
 fits : (board : Board) (h : List Deed) (b : ℕ) (header : HeaderFields) (r : Result codec.Command Status) → HasBounds board h → (o : Option PendingSet)
     → option_and_then (acceptance board) (if begins_with_success (reply_words board b (situation_after board b h) r) then success_with b header r else None) ≡ o → Fits board h o
 fits board h b header r had None e = fits-none board h had
-fits board h b header r had (Some p) e = let two = accept-room board b h header r p e in fits-some board h b p had two.0 two.1
+fits board h b header r had (Some p) e = let one = accepted board b header (situation_after board b h) p r e in fits-some board h b p had one.own one.room
 
 -- a deed that completes and posts nothing
 settled : (board : Board) (h : List Deed) (deed : Deed) → is_advance deed.event ≡ false → ((a : ℕ) → is_sent_by a deed.event ≡ false) → completed_set board h deed.event ≡ None → failed_set board h deed.event ≡ None → restarted_by deed.event ≡ None

@@ -1,32 +1,33 @@
 -- Each change of a legal history came of a command of its causer, who might make it there, or the hardware reported it.
-use Rattle.std.proofs.Common.{◌≡◌, ◌⊎◌, inl, inr, ℕ, ◌==◌, ◌&&◌, Bool, true, false, not, List, [], ◌∷◌, ◌++◌, length, map, slice_get, Option, Some, None, Result, Ok, Err, option_map, unwrap_or, refl, sym, ap, ◌∙◌, subst, if◌then◌else◌}
+use Rattle.std.proofs.Common.{◌≡◌, inl, inr, ℕ, ◌==◌, ◌&&◌, Bool, true, false, not, List, [], ◌∷◌, ◌++◌, length, map, slice_get, Option, Some, None, Result, Ok, Err, option_map, unwrap_or, refl, sym, ap, ◌∙◌, subst, if◌then◌else◌}
 use Rattle.std.specs.List.{All}
 use Rattle.std.specs.Option.{option_and_then, option_or, option_to_list}
 use Rattle.std.proofs.lemmas.List.{append_assoc, append-nil}
-use Rattle.std.proofs.lemmas.List.Elements.{All-append, All-cons, All-drop, All-head, All-map, All-nil, All-same, All-weaker}
+use Rattle.std.proofs.lemmas.List.Elements.{All-append, All-drop, All-head, All-map, All-nil, All-same, All-weaker}
 use Rattle.scmi_codec.specs.Header.{HeaderFields}
 use Rattle.scmi_codec.specs.Payload.{begins_with_success}
-use Rattle.scmi_codec.specs.Reply.{bit_0, reply_unless}
 use Rattle.scmi_codec.specs.declared.status.Status.{Status}
-use Rattle.scmi_codec.specs.declared.status.Status.TheVariants.{NotFound, InvalidParameters, NotSupported, Denied, Busy}
 use Rattle.scmi_codec.specs.declared.frame.Frame.TheVariants.{Good, Malformed}
 use Rattle.scmi_codec.specs.declared.message.Message.{Message}
 use Rattle.scmi_codec.specs.declared.command.Command as codec
 use Rattle.scmi_codec.specs.declared.command.Command.TheVariants.{Base, Power, Clock}
 use Rattle.scmi_codec.specs.declared.power_command.PowerCommand.{PowerCommand}
-use Rattle.scmi_codec.specs.declared.power_command.PowerCommand.TheVariants as power
 use Rattle.scmi_codec.specs.declared.clock_command.ClockCommand.{ClockCommand}
-use Rattle.scmi_codec.specs.declared.clock_command.ClockCommand.TheVariants as clock
 use Rattle.scmi_plan.specs.Agent.{IsAgent}
 use Rattle.scmi_plan.specs.Board.{Board, is_kept}
 use Rattle.scmi_plan.specs.declared.resource.Resource.TheVariants as resource
 use Rattle.scmi_base.specs.Permission.{may}
-use Rattle.scmi_power.specs.PowerReply.{may_set, power_reply}
+use Rattle.scmi_power.specs.PowerReply.{power_reply}
 use Rattle.scmi_clock.specs.ClockReply.{clock_reply}
-use Rattle.scmi_clock.specs.ClockTable.{set_rate}
-use Rattle.scmi_clock.specs.SetFlags.{is_asynchronous, is_response_wanted}
 use Rattle.scmi_plan.specs.declared.effect.Effect.{Effect}
 use Rattle.scmi_plan.specs.declared.effect.Effect.TheVariants as effect
+use Rattle.scmi_base.specs.Protocol.{resource_changed}
+use Rattle.scmi_power.specs.PowerProtocol.{state_effect}
+use Rattle.scmi_power.specs.PowerTable.{set_later, set_now}
+use Rattle.scmi_power.proofs.PowerLaws.{power_laws}
+use Rattle.scmi_clock.specs.ClockProtocol.{clock_effect, later_effect, may_in, switches_off}
+use Rattle.scmi_clock.specs.ClockTable.{enabled_now, rate_later, rate_now}
+use Rattle.scmi_clock.proofs.ClockLaws.{clock_laws}
 use Rattle.scmi_core.specs.declared.event.Event.{Event}
 use Rattle.scmi_core.specs.declared.event.Event.TheVariants.{Command, Advance, Sent, CommandFailed, AdvanceFailed, Restarted, Reported}
 use Rattle.scmi_core.specs.declared.pending_set.PendingSet.{PendingSet}
@@ -40,49 +41,16 @@ use Rattle.scmi_core.specs.ReadCommand.{command_on}
 use Rattle.scmi_core.specs.Reply.{fits_channel, reply_words}
 use Rattle.scmi_core.specs.Situation.{Situation, clock_view, power_view}
 use Rattle.scmi_core.specs.Value.{Change, Enabled, Rate, State, bit_value, change_now, change_reported, changes, completion}
+use Rattle.scmi_core.proofs.Accepting.{All-option, then_some}
 use Rattle.scmi_core.proofs.Deeds.{changes-push}
 use Rattle.scmi_core.proofs.Following.{change-is, change_in, pending-next, pending_next}
 use Rattle.scmi_core.proofs.Legal.{Grown, IsLegal-front, IsLegal-last, advances_le-accepted, deeds-push, empty, grow, grown}
 
 -- A SUCCESS THAT ASKS FOR A CHANGE
 
--- what succeeded passed the check of its permission
-set-allowed : (c1 c2 c3 may busy : Bool)
-    → begins_with_success (reply_unless ((c1, NotFound) ∷ (c2, InvalidParameters) ∷ (c3, NotSupported) ∷ (not may, Denied) ∷ (busy, Busy) ∷ []) (0 ∷ [])) ≡ true → may ≡ true
-set-allowed c1 c2 c3 true busy ok = refl
-set-allowed true c2 c3 false busy ok = absurd (cc)
-set-allowed false true c3 false busy ok = absurd (cc)
-set-allowed false false true false busy ok = absurd (cc)
-set-allowed false false false false busy ok = absurd (cc)
-
--- a change that its agent may make where no rule of the board forbids it
-may_alone : (may forbidden : Bool) → (may && not forbidden) ≡ true → may ≡ true
-may_alone true forbidden e = refl
-may_alone false forbidden e = absurd (cc)
-
--- no rule of the board forbids a change that may be made
-not_forbidden : (may forbidden : Bool) → (may && not forbidden) ≡ true → forbidden ≡ false
-not_forbidden true false e = refl
-not_forbidden true true e = absurd (cc)
-not_forbidden false forbidden e = absurd (cc)
-
 off_bit : (b : Bool) → (bit_value b == 0) ≡ not b
 off_bit true = refl
 off_bit false = refl
-
-and_false : (b : Bool) → (b && false) ≡ false
-and_false true = refl
-and_false false = refl
-
-config-allowed : (c1 c2 may : Bool) → begins_with_success (reply_unless ((c1, NotFound) ∷ (c2, InvalidParameters) ∷ (not may, Denied) ∷ []) (0 ∷ [])) ≡ true → may ≡ true
-config-allowed c1 c2 true ok = refl
-config-allowed true c2 false ok = absurd (cc)
-config-allowed false true false ok = absurd (cc)
-config-allowed false false false ok = absurd (cc)
-
-then_some : {A B : Type 0} (b : Bool) (o : Option A) (f : A → Option B) (y : B) → option_and_then f (if b then o else None) ≡ Some y → (b ≡ true) × (option_and_then f o ≡ Some y)
-then_some true o f y is = (refl, is)
-then_some false o f y is = absurd (cc)
 
 -- a domain and a state, or a clock and a rate, that agent a gave it
 abbrev state_given : ℕ → ℕ × ℕ → Change
@@ -90,6 +58,9 @@ state_given a set = record { thing = State set.0; value = set.1; causer = a }
 
 abbrev rate_given : ℕ → ℕ × ℕ → Change
 rate_given a set = record { thing = Rate set.0; value = set.1; causer = a }
+
+abbrev enabled_given : ℕ → ℕ × Bool → Change
+enabled_given a set = record { thing = Enabled set.0; value = bit_value set.1; causer = a }
 
 -- a change is agent a's, who may make it there
 pub record IsOwn (board : Board) (a : ℕ) (s : Situation) (change : Change) : Type 0 where
@@ -106,39 +77,46 @@ module _ (board : Board) (a : ℕ) (header : HeaderFields) (s : Situation) (chan
       let same : it ≡ change = ap (λ o. unwrap_or o change) is in
       record { causer = subst (λ c. c.causer ≡ a) same causer; allowed = subst (λ c. may board s.allowed (resource_of c.thing) ≡ true) same allowed; kept = subst (IsKeptOn board) same kept }
 
+  -- the change of an effect, as its causer made it
+  record IsGiven (e : Effect) : Type 0 where
+    pub it : Change
+    pub causer : it.causer ≡ a
+    pub of : resource_of it.thing ≡ resource_changed e
+    pub off : (is_kept board (resource_changed e) && switches_off e) ≡ false → IsKeptOn board it
+    pub is : Some it ≡ Some change
+
+  may_in-clock : (e : Effect) → may_in (clock_view board a s) (resource_changed e) ≡ true → may board s.allowed (resource_changed e) ≡ true
+  may_in-clock (effect.State d state) is = absurd (cc)
+  may_in-clock (effect.Rate c rate) is = is
+  may_in-clock (effect.Enabled c enabled) is = is
+
+  -- the domain and state, or the clock and its rate or enabled bit, that a success asks for
+  power-asked : (now later : Option (ℕ × ℕ)) → option_or (option_map (state_given a) now) (option_map completion (option_map (state_set a header) later)) ≡ Some change
+      → (set : ℕ × ℕ) × (option_or (option_map state_effect now) (option_map state_effect later) ≡ Some (state_effect set)) × (Some (state_given a set) ≡ Some change)
+  power-asked (Some set) later is = (set, refl, is)
+  power-asked None (Some set) is = (set, refl, is)
+  power-asked None None is = absurd (cc)
+
   power-own : (c : PowerCommand) → begins_with_success (power_reply board (power_view board a s) c) ≡ true → asks (Power c) ≡ Some change → IsOwn board a s change
-  unfolding power_reply may_set
-  power-own power.Version ok is = absurd (cc)
-  power-own power.Attributes ok is = absurd (cc)
-  power-own (power.MessageAttributes message) ok is = absurd (cc)
-  power-own (power.DomainAttributes d) ok is = absurd (cc)
-  power-own (power.Get d) ok is = absurd (cc)
-  power-own (power.Notify d enable) ok is = absurd (cc)
-  power-own (power.Set flags d state) ok is = own (state_given a (d, state)) refl (may_alone _ _ (set-allowed _ _ _ _ _ ok)) (not_forbidden _ _ (set-allowed _ _ _ _ _ ok)) (by (bit_0 flags) is) where
-    by : (later : Bool)
-        → option_or (option_map (state_given a) (if later then None else Some (d, state)))
-        (option_map completion (option_map (state_set a header) (if later then Some (d, state) else None))) ≡ Some change
-        → Some (state_given a (d, state)) ≡ Some change
-    by true is = is
-    by false is = is
+  power-own c ok is =
+      let v = power_view board a s in
+      let x = power-asked (set_now c) (set_later c) is in
+      own (state_given a x.0) refl (power_laws.allowed board v c (state_effect x.0) ok x.1) (power_laws.kept board v c (state_effect x.0) ok x.1) x.2
+
+  clock-asked : (rate : Option (ℕ × ℕ)) (enabled : Option (ℕ × Bool)) (later : Option (ℕ × ℕ × Bool))
+      → option_or (option_or (option_map (rate_given a) rate) (option_map (enabled_given a) enabled)) (option_map completion (option_map (rate_set a header) later)) ≡ Some change
+      → (e : Effect) × (option_or (clock_effect rate enabled) (option_map later_effect later) ≡ Some e) × IsGiven e
+  clock-asked (Some set) enabled later is = (effect.Rate set.0 set.1, refl, record { it = rate_given a set; causer = refl; of = refl; off = λ h. h; is = is })
+  clock-asked None (Some set) later is = (effect.Enabled set.0 set.1, refl, record { it = enabled_given a set; causer = refl; of = refl; off = λ h. ap (λ b. is_kept board (resource.Clock set.0) && b) (off_bit set.1) ∙ h; is = is })
+  clock-asked None None (Some set) is = (effect.Rate set.0 set.1, refl, record { it = rate_given a (set.0, set.1); causer = refl; of = refl; off = λ h. h; is = is })
+  clock-asked None None None is = absurd (cc)
 
   clock-own : (c : ClockCommand) → begins_with_success (clock_reply board (clock_view board a s) c) ≡ true → asks (Clock c) ≡ Some change → IsOwn board a s change
-  unfolding clock_reply
-  clock-own clock.Version ok is = absurd (cc)
-  clock-own clock.Attributes ok is = absurd (cc)
-  clock-own (clock.MessageAttributes message) ok is = absurd (cc)
-  clock-own (clock.ClockAttributes c) ok is = absurd (cc)
-  clock-own (clock.Describe c index) ok is = absurd (cc)
-  clock-own (clock.GetRate c) ok is = absurd (cc)
-  clock-own (clock.Config c attributes) ok is = own (record { thing = Enabled c; value = bit_value (bit_0 attributes); causer = a }) refl (may_alone _ _ (config-allowed _ _ _ ok))
-      (ap (λ b. is_kept board (resource.Clock c) && b) (off_bit (bit_0 attributes)) ∙ not_forbidden _ _ (config-allowed _ _ _ ok)) is
-  clock-own (clock.SetRate flags c rate) ok is = own (rate_given a (c, set_rate board flags c rate)) refl (set-allowed _ _ _ _ _ ok) (and_false (is_kept board (resource.Clock c))) (by (is_asynchronous flags) is) where
-    by : (later : Bool)
-        → option_or (option_or (option_map (rate_given a) (if later then None else Some (c, set_rate board flags c rate))) None)
-        (option_map completion (option_map (rate_set a header) (if later then Some (c, set_rate board flags c rate, is_response_wanted flags) else None))) ≡ Some change
-        → Some (rate_given a (c, set_rate board flags c rate)) ≡ Some change
-    by true is = is
-    by false is = is
+  clock-own c ok is =
+      let v = clock_view board a s in
+      let x = clock-asked (rate_now board c) (enabled_now c) (rate_later board c) is in
+      let g = x.2 in
+      own g.it g.causer (subst (λ r. may board s.allowed r ≡ true) (sym g.of) (may_in-clock x.0 (clock_laws.allowed board v c x.0 ok x.1))) (g.off (clock_laws.kept board v c x.0 ok x.1)) g.is
 
   pub asked-own : (r : Result codec.Command Status)
       → option_and_then (change_asked board) (if begins_with_success (reply_words board a s r) then success_with a header r else None) ≡ Some change → IsOwn board a s change
@@ -149,55 +127,42 @@ module _ (board : Board) (a : ℕ) (header : HeaderFields) (s : Situation) (chan
   asked-own (Ok (Clock c)) is = let two = then_some (begins_with_success (reply_words board a s (Ok (Clock c)))) (success_with a header (Ok (Clock c))) (change_asked board) change is in clock-own c two.0 two.1
 
 -- a change that is made at once was asked for
-now-asked : (board : Board) (o : Option Success) (change : Change) → option_and_then (change_now board) o ≡ Some change → option_and_then (change_asked board) o ≡ Some change
+pub now-asked : (board : Board) (o : Option Success) (change : Change) → option_and_then (change_now board) o ≡ Some change → option_and_then (change_asked board) o ≡ Some change
 now-asked board None change is = absurd (cc)
 now-asked board (Some s) change is = ap (λ now. option_or now (option_map completion (acceptance board s))) is
 
 -- a success that is accepted for later changes nothing at once
 module _ (board : Board) (a : ℕ) (header : HeaderFields) (p : PendingSet) where
   power-later : (c : PowerCommand) → acceptance board (record { caller = a; header = header; command = Power c }) ≡ Some p → change_now board (record { caller = a; header = header; command = Power c }) ≡ None
-  power-later power.Version is = refl
-  power-later power.Attributes is = refl
-  power-later (power.MessageAttributes message) is = refl
-  power-later (power.DomainAttributes d) is = refl
-  power-later (power.Get d) is = refl
-  power-later (power.Notify d enable) is = refl
-  power-later (power.Set flags d state) is = by (bit_0 flags) is where
-    by : (later : Bool) → option_map (state_set a header) (if later then Some (d, state) else None) ≡ Some p
-        → option_map (state_given a) (if later then None else Some (d, state)) ≡ None
-    by true is = refl
-    by false is = absurd (cc)
+  power-later c is = by (set_now c) (set_later c) is (power_laws.once board c) where
+    by : (now later : Option (ℕ × ℕ)) → option_map (state_set a header) later ≡ Some p → ((e : Effect) → option_map state_effect later ≡ Some e → option_map state_effect now ≡ None)
+        → option_map (state_given a) now ≡ None
+    by None later some once = refl
+    by (Some set) None some once = absurd (cc)
+    by (Some set) (Some set') some once = absurd (let no = once (state_effect set') refl in cc)
 
   clock-later : (c : ClockCommand) → acceptance board (record { caller = a; header = header; command = Clock c }) ≡ Some p → change_now board (record { caller = a; header = header; command = Clock c }) ≡ None
-  clock-later clock.Version is = refl
-  clock-later clock.Attributes is = refl
-  clock-later (clock.MessageAttributes message) is = refl
-  clock-later (clock.ClockAttributes c) is = refl
-  clock-later (clock.Describe c index) is = refl
-  clock-later (clock.GetRate c) is = refl
-  clock-later (clock.Config c attributes) is = absurd (cc)
-  clock-later (clock.SetRate flags c rate) is = by (is_asynchronous flags) is where
-    by : (later : Bool) → option_map (rate_set a header) (if later then Some (c, set_rate board flags c rate, is_response_wanted flags) else None) ≡ Some p
-        → option_or (option_map (rate_given a) (if later then None else Some (c, set_rate board flags c rate))) None ≡ None
-    by true is = refl
-    by false is = absurd (cc)
+  clock-later c is = by (rate_now board c) (enabled_now c) (rate_later board c) is (clock_laws.once board c) where
+    by : (rate : Option (ℕ × ℕ)) (enabled : Option (ℕ × Bool)) (later : Option (ℕ × ℕ × Bool)) → option_map (rate_set a header) later ≡ Some p
+        → ((e : Effect) → option_map later_effect later ≡ Some e → clock_effect rate enabled ≡ None)
+        → option_or (option_map (rate_given a) rate) (option_map (enabled_given a) enabled) ≡ None
+    by None None later some once = refl
+    by rate enabled None some once = absurd (cc)
+    by (Some set) enabled (Some set') some once = absurd (let no = once (later_effect set') refl in cc)
+    by None (Some set) (Some set') some once = absurd (let no = once (later_effect set') refl in cc)
 
-  later : (c : codec.Command) → acceptance board (record { caller = a; header = header; command = c }) ≡ Some p → change_now board (record { caller = a; header = header; command = c }) ≡ None
+  pub later : (c : codec.Command) → acceptance board (record { caller = a; header = header; command = c }) ≡ Some p → change_now board (record { caller = a; header = header; command = c }) ≡ None
   later (Base c) is = refl
   later (Power c) is = power-later c is
   later (Clock c) is = clock-later c is
 
-later-asked : (board : Board) (o : Option Success) (p : PendingSet) → option_and_then (acceptance board) o ≡ Some p → option_and_then (change_asked board) o ≡ Some (completion p)
+pub later-asked : (board : Board) (o : Option Success) (p : PendingSet) → option_and_then (acceptance board) o ≡ Some p → option_and_then (change_asked board) o ≡ Some (completion p)
 later-asked board None p is = absurd (cc)
 later-asked board (Some s) p is =
     ap (λ now. option_or now (option_map completion (acceptance board s))) (later board s.caller s.header p s.command is)
     ∙ ap (option_map completion) is
 
 -- ONE MORE EVENT
-
-All-option : {X : Type 0} (P : X → Type 0) (o : Option X) → ((x : X) → o ≡ Some x → P x) → All P (option_to_list o)
-All-option P None each = All-nil P
-All-option P (Some x) each = All-cons P x [] (each x refl) (All-nil P)
 
 cause-kept : (board : Board) (h : List Event) (e : Event) (change : Change) → HasCause board h change → HasCause board (h ++ e ∷ []) change
 cause-kept board h e change had = record {

@@ -1,5 +1,5 @@
 -- What an agent gets in a legal history has room in its channels, and an agent that the platform can't send to gets no message.
-use Rattle.std.proofs.Common.{◌≡◌, ◌⊎◌, inl, inr, ℕ, zero, suc, ◌+◌, ◌≤◌, ◌==◌, ◌&&◌, nat_lt, Bool, true, false, not, List, [], ◌∷◌, ◌++◌, length, drop, map, slice_get, Option, Some, None, Result, Ok, Err, option_map, unwrap_or, refl, sym, ap, ◌∙◌, subst, arith, if◌then◌else◌}
+use Rattle.std.proofs.Common.{◌≡◌, ◌⊎◌, inl, inr, ℕ, zero, suc, ◌+◌, ◌≤◌, ◌==◌, ◌&&◌, nat_lt, Bool, true, false, not, List, [], ◌∷◌, ◌++◌, length, drop, map, slice_get, Option, Some, None, Result, Ok, Err, unwrap_or, refl, sym, ap, ◌∙◌, subst, arith, if◌then◌else◌}
 use Rattle.std.specs.List.{All}
 use Rattle.std.specs.Option.{option_and_then, option_map_or, option_or, option_to_list}
 use Rattle.std.proofs.lemmas.List.{append-nil}
@@ -7,26 +7,19 @@ use Rattle.std.proofs.lemmas.List.Elements.{All-append, All-cons, All-drop, All-
 use Rattle.std.proofs.lemmas.Bool.{cases_Bool, eqb-true}
 use Rattle.scmi_codec.specs.Header.{HeaderFields}
 use Rattle.scmi_codec.specs.Payload.{begins_with_success}
-use Rattle.scmi_codec.specs.Reply.{bit_0, reply_unless}
 use Rattle.scmi_codec.specs.declared.status.Status.{Status}
-use Rattle.scmi_codec.specs.declared.status.Status.TheVariants.{NotFound, InvalidParameters, NotSupported, Denied, Busy}
 use Rattle.scmi_codec.specs.declared.message.Message.{Message}
 use Rattle.scmi_codec.specs.declared.frame.Frame.{Frame}
 use Rattle.scmi_codec.specs.declared.frame.Frame.TheVariants.{Good, Malformed}
 use Rattle.scmi_codec.specs.declared.frame.Answer.TheVariants.{Reply, ChannelError}
 use Rattle.scmi_codec.specs.declared.command.Command as codec
 use Rattle.scmi_codec.specs.declared.command.Command.TheVariants.{Base, Power, Clock}
-use Rattle.scmi_codec.specs.declared.power_command.PowerCommand.{PowerCommand}
-use Rattle.scmi_codec.specs.declared.power_command.PowerCommand.TheVariants as power
-use Rattle.scmi_codec.specs.declared.clock_command.ClockCommand.{ClockCommand}
-use Rattle.scmi_codec.specs.declared.clock_command.ClockCommand.TheVariants as clock
 use Rattle.scmi_plan.specs.Board.{Board, channel_of}
 use Rattle.scmi_plan.specs.Plan.{IsValid}
 use Rattle.scmi_base.specs.Permission.{reset_by}
 use Rattle.scmi_power.specs.PowerReply.{power_reply}
-use Rattle.scmi_power.specs.PowerTable.{notification, set_later}
-use Rattle.scmi_clock.specs.ClockReply.{clock_reply}
-use Rattle.scmi_clock.specs.ClockTable.{rate_later}
+use Rattle.scmi_power.specs.PowerTable.{notification}
+use Rattle.scmi_power.proofs.PowerLaws.{power_laws}
 use Rattle.scmi_core.specs.declared.event.Event.{Event}
 use Rattle.scmi_codec.specs.declared.fault.Fault.{Fault}
 use Rattle.scmi_core.specs.declared.event.Event.TheVariants.{Command, Advance, Sent, CommandFailed, AdvanceFailed, Restarted, Reported}
@@ -42,9 +35,10 @@ use Rattle.scmi_core.specs.Outbox.{failed_response_for, failed_response_to, fail
 use Rattle.scmi_core.specs.Pending.{acceptance, sets_by, unwanted}
 use Rattle.scmi_core.specs.ReadCommand.{command_on}
 use Rattle.scmi_core.specs.Reply.{fits_channel, reply_words}
-use Rattle.scmi_core.specs.Situation.{Situation, clock_view, power_view}
+use Rattle.scmi_core.specs.Situation.{Situation, power_view}
 use Rattle.scmi_core.specs.Subscriptions.{subscription, subscription_after_reset, subscription_at}
 use Rattle.scmi_core.specs.Value.{Change, Enabled, Rate, State, Thing, fault_in}
+use Rattle.scmi_core.proofs.Accepting.{All-option, accepted}
 use Rattle.scmi_core.proofs.Following.{change_in, completed_in, failed_in, made_next, messages-next, next, pending_next, situation-next}
 use Rattle.scmi_core.proofs.Isolation.{answers-push}
 use Rattle.scmi_core.proofs.Legal.{Grown, IsLegal-front, advances_le-accepted, deeds-push, empty, grow, grown, sent_le-made}
@@ -153,98 +147,6 @@ module _ (board : Board) (b : ℕ) (eight : 8 ≤ (channel_of board b).words) wh
 
 -- AN AGENT THAT THE PLATFORM CAN'T SEND TO
 
-then_some : {A B : Type 0} (b : Bool) (o : Option A) (f : A → Option B) (y : B) → option_and_then f (if b then o else None) ≡ Some y → (b ≡ true) × (option_and_then f o ≡ Some y)
-then_some true o f y e = (refl, e)
-then_some false o f y e = absurd (cc)
-
-mapped : {A B : Type 0} (f : A → B) (o : Option A) (y : B) → option_map f o ≡ Some y → (x : A) × (o ≡ Some x) × (f x ≡ y)
-mapped f None y e = absurd (cc)
-mapped f (Some x) y e = (x, refl, ap (λ o. option_map_or (λ z. z) o y) e)
-
-later_bit : {A : Type 0} (b : Bool) (x : A) {y : A} → (if b then Some x else None) ≡ Some y → b ≡ true
-later_bit true x e = refl
-later_bit false x e = absurd (cc)
-
--- what succeeds at 0x11 and has the platform send is of an agent that it can send to
-set-sent : (c1 c2 c4 c5 later one_way asynchronous synchronous : Bool)
-    → begins_with_success (reply_unless ((c1, NotFound) ∷ (c2, InvalidParameters) ∷ (not (if later then not one_way && asynchronous else synchronous), NotSupported) ∷ (c4, Denied) ∷ (c5, Busy) ∷ []) (0 ∷ [])) ≡ true
-    → later ≡ true → one_way ≡ false
-set-sent c1 c2 c4 c5 later false asynchronous synchronous ok is = refl
-set-sent true c2 c4 c5 later true asynchronous synchronous ok is = absurd (cc)
-set-sent false true c4 c5 later true asynchronous synchronous ok is = absurd (cc)
-set-sent false false c4 c5 true true asynchronous synchronous ok is = absurd (cc)
-set-sent false false c4 c5 false true asynchronous synchronous ok is = absurd (cc)
-
-notify-sent : (c1 c2 c4 one_way notify : Bool)
-    → begins_with_success (reply_unless ((c1, NotFound) ∷ (c2, InvalidParameters) ∷ (not (not one_way && notify), NotSupported) ∷ (c4, Denied) ∷ []) (0 ∷ [])) ≡ true → one_way ≡ false
-notify-sent c1 c2 c4 false notify ok = refl
-notify-sent true c2 c4 true notify ok = absurd (cc)
-notify-sent false true c4 true notify ok = absurd (cc)
-notify-sent false false c4 true notify ok = absurd (cc)
-
--- and at 0x14
-rate-sent : (c1 c2 c4 c5 later one_way : Bool)
-    → begins_with_success (reply_unless ((c1, NotFound) ∷ (c2, InvalidParameters) ∷ (one_way && later, NotSupported) ∷ (c4, Denied) ∷ (c5, Busy) ∷ []) (0 ∷ [])) ≡ true
-    → later ≡ true → one_way ≡ false
-rate-sent c1 c2 c4 c5 later false ok is = refl
-rate-sent true c2 c4 c5 later true ok is = absurd (cc)
-rate-sent false true c4 c5 later true ok is = absurd (cc)
-rate-sent false false c4 c5 true true ok is = absurd (cc)
-rate-sent false false c4 c5 false true ok is = absurd (cc)
-
-module _ (board : Board) (a : ℕ) (header : HeaderFields) (s : Situation) where
-  power-sent : (c : PowerCommand) (set : ℕ × ℕ) → begins_with_success (power_reply board (power_view board a s) c) ≡ true → set_later c ≡ Some set → (channel_of board a).one_way ≡ false
-  unfolding power_reply
-  power-sent power.Version set ok e = absurd (cc)
-  power-sent power.Attributes set ok e = absurd (cc)
-  power-sent (power.MessageAttributes message) set ok e = absurd (cc)
-  power-sent (power.DomainAttributes d) set ok e = absurd (cc)
-  power-sent (power.Get d) set ok e = absurd (cc)
-  power-sent (power.Notify d enable) set ok e = absurd (cc)
-  power-sent (power.Set flags d state) set ok e = set-sent _ _ _ _ (bit_0 flags) (channel_of board a).one_way _ _ ok (later_bit (bit_0 flags) (d, state) e)
-
-  clock-sent : (c : ClockCommand) (set : ℕ × ℕ × Bool) → begins_with_success (clock_reply board (clock_view board a s) c) ≡ true → rate_later board c ≡ Some set → (channel_of board a).one_way ≡ false
-  unfolding clock_reply
-  clock-sent clock.Version set ok e = absurd (cc)
-  clock-sent clock.Attributes set ok e = absurd (cc)
-  clock-sent (clock.MessageAttributes message) set ok e = absurd (cc)
-  clock-sent (clock.ClockAttributes d) set ok e = absurd (cc)
-  clock-sent (clock.Describe d index) set ok e = absurd (cc)
-  clock-sent (clock.GetRate d) set ok e = absurd (cc)
-  clock-sent (clock.Config d attributes) set ok e = absurd (cc)
-  clock-sent (clock.SetRate flags d rate) set ok e = rate-sent _ _ _ _ (bit_0 flags) (channel_of board a).one_way ok (later_bit (bit_0 flags) _ e)
-
-  -- a set that is accepted for later is its caller's, whom the platform can send to
-  accepted-sent : (r : Result codec.Command Status) (p : PendingSet)
-      → option_and_then (acceptance board) (if begins_with_success (reply_words board a s r) then success_with a header r else None) ≡ Some p
-      → (p.agent ≡ a) × ((channel_of board a).one_way ≡ false)
-  unfolding reply_words
-  accepted-sent (Err e) p is = let two = then_some (begins_with_success (reply_words board a s (Err e))) (success_with a header (Err e)) (acceptance board) p is in let no = two.1 in absurd (cc)
-  accepted-sent (Ok (Base c)) p is = let two = then_some (begins_with_success (reply_words board a s (Ok (Base c)))) (success_with a header (Ok (Base c))) (acceptance board) p is in let no = two.1 in absurd (cc)
-  accepted-sent (Ok (Power c)) p is =
-      let two = then_some (begins_with_success (reply_words board a s (Ok (Power c)))) (success_with a header (Ok (Power c))) (acceptance board) p is in
-      let set = mapped _ (set_later c) p two.1 in
-      (sym (ap (λ q. q.agent) set.2), power-sent c set.0 two.0 set.1)
-  accepted-sent (Ok (Clock c)) p is =
-      let two = then_some (begins_with_success (reply_words board a s (Ok (Clock c)))) (success_with a header (Ok (Clock c))) (acceptance board) p is in
-      let set = mapped _ (rate_later board c) p two.1 in
-      (sym (ap (λ q. q.agent) set.2), clock-sent c set.0 two.0 set.1)
-
-  -- a request for notifications too
-  asked-sent : (c : PowerCommand) (b d : ℕ) (told : Bool) → begins_with_success (power_reply board (power_view board a s) c) ≡ true → notification b d a c ≡ Some told
-      → ((a == b) ≡ true) × ((channel_of board a).one_way ≡ false)
-  unfolding power_reply
-  asked-sent power.Version b d told ok e = absurd (cc)
-  asked-sent power.Attributes b d told ok e = absurd (cc)
-  asked-sent (power.MessageAttributes message) b d told ok e = absurd (cc)
-  asked-sent (power.DomainAttributes domain) b d told ok e = absurd (cc)
-  asked-sent (power.Get domain) b d told ok e = absurd (cc)
-  asked-sent (power.Set flags domain state) b d told ok e = absurd (cc)
-  asked-sent (power.Notify domain enable) b d told ok e = (own (a == b) (domain == d) e, notify-sent _ _ _ (channel_of board a).one_way _ ok) where
-    own : (x y : Bool) → (if x && y then Some (bit_0 enable) else None) ≡ Some told → x ≡ true
-    own true y is = refl
-    own false y is = absurd (cc)
-
 -- what an agent that the platform can't send to never has: a request for notifications, and a pending set
 record IsUnsent (b : ℕ) (s : Situation) : Type 0 where
   pub subscribed : (d : ℕ) → s.subscribed d ≡ false
@@ -253,10 +155,6 @@ record IsUnsent (b : ℕ) (s : Situation) : Type 0 where
 both_ways : (b : Bool) → b ≡ true → b ≡ false → ⊥
 both_ways true is not = absurd (cc)
 both_ways false is not = absurd (cc)
-
-All-option : {X : Type 0} (P : X → Type 0) (o : Option X) → ((x : X) → o ≡ Some x → P x) → All P (option_to_list o)
-All-option P None each = All-nil P
-All-option P (Some x) each = All-cons P x [] (each x refl) (All-nil P)
 
 -- so it is given no message
 module _ (board : Board) (b : ℕ) (s : Situation) (quiet : IsUnsent b s) where
@@ -338,7 +236,7 @@ module _ (board : Board) (b : ℕ) (one_way : IsOneWay board b) where
     asked : begins_with_success (power_reply board (power_view board a s) c) ≡ true → (o : Option Bool) → notification b d a c ≡ o → unwrap_or o old ≡ false
     asked ok None is = was
     asked ok (Some told) is =
-        let sent = asked-sent board a header s c b d told ok is in
+        let sent = power_laws.told board (power_view board a s) c b d a told ok is in
         absurd (both_ways (channel_of board b).one_way one_way (subst (λ x. (channel_of board x).one_way ≡ false) (eqb-true a b sent.0) sent.1))
 
     by : (ok : Bool) → begins_with_success (power_reply board (power_view board a s) c) ≡ ok
@@ -354,8 +252,8 @@ module _ (board : Board) (b : ℕ) (one_way : IsOneWay board b) where
     other p is = by (cases_Bool (p.agent == b)) where
       by : ((p.agent == b) ≡ true) ⊎ ((p.agent == b) ≡ false) → (p.agent == b) ≡ false
       by (inl own) =
-          let sent = accepted-sent board a header s r p is in
-          absurd (both_ways (channel_of board b).one_way one_way (subst (λ x. (channel_of board x).one_way ≡ false) (sym sent.0 ∙ eqb-true p.agent b own) sent.1))
+          let one = accepted board a header s p r is in
+          absurd (both_ways (channel_of board b).one_way one_way (subst (λ x. (channel_of board x).one_way ≡ false) (sym one.own ∙ eqb-true p.agent b own) one.sent))
       by (inr another) = another
 
   module _ (h : List Deed) (s : Situation) (quiet : IsUnsent b s) where

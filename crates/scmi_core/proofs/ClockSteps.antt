@@ -10,13 +10,13 @@ use Rattle.scmi_codec.specs.declared.command.Command as codec
 use Rattle.scmi_codec.specs.declared.command.Command.TheVariants.{Base, Clock}
 use Rattle.scmi_codec.specs.declared.base_command.BaseCommand.{BaseCommand}
 use Rattle.scmi_codec.specs.declared.clock_command.ClockCommand.{ClockCommand}
-use Rattle.scmi_codec.specs.declared.clock_command.ClockCommand.TheVariants as clock
 use Rattle.scmi_plan.specs.Board.{Board}
 use Rattle.scmi_base.specs.Permission.{Permissions, is_allowed, is_allowed_after, permission, reset_after, reset_by}
 use Rattle.scmi_plan.specs.declared.scope.Scope.{Scope}
 use Rattle.scmi_power.specs.PowerTable.{state_at, is_subscribed}
 use Rattle.scmi_clock.specs.ClockTable.{ClockTables, rate_at, enabled_at, rate_now, rate_later, enabled_now, enabled_to, set_to}
 use Rattle.scmi_codec.specs.Payload.{if_success}
+use Rattle.scmi_clock.proofs.ClockLaws.{never_both}
 use Rattle.scmi_core.specs.declared.pending_set.PendingSet.{PendingSet}
 use Rattle.scmi_core.specs.declared.tables.Tables.{Tables}
 use Rattle.std.specs.Option.{option_or, option_and_then, option_to_list}
@@ -64,16 +64,6 @@ says_nothing a header r reply f old e = by (begins_with_success reply) where
   by : (b : Bool) → unwrap_or (option_and_then f (if b then success_with a header r else None)) old ≡ old
   by true = ap (λ o. unwrap_or o old) e
   by false = refl
-
-never_both : (board : Board) (c : ClockCommand) → (rate_now board c ≡ None) ⊎ (enabled_now c ≡ None)
-never_both board clock.Version = inl refl
-never_both board clock.Attributes = inl refl
-never_both board (clock.MessageAttributes message) = inl refl
-never_both board (clock.ClockAttributes d) = inl refl
-never_both board (clock.Describe d index) = inl refl
-never_both board (clock.SetRate flags d rate) = inr refl
-never_both board (clock.GetRate d) = inl refl
-never_both board (clock.Config d attributes) = inl refl
 
 state-same : (a d old : ℕ) (rate : Option (ℕ × ℕ)) (enabled : Option (ℕ × Bool)) → old ≡ unwrap_or (option_and_then (value_in (State d)) (either a rate enabled)) old
 state-same a d old None None = refl

@@ -1,38 +1,33 @@
 -- What a message with an effect is: a set that succeeds at once, and its reply is SUCCESS alone.
-use Rattle.std.proofs.Common.{◌≡◌, ℕ, ◌-◌, ◌<◌, ◌≤◌, ◌==◌, nat_le, Bool, true, false, not, ◌&&◌, ◌||◌, List, [], ◌∷◌, ◌++◌, length, drop, get_or, option_map, Option, Some, None, IfSome, Result, Ok, Err, unwrap_or, refl, sym, ap, subst, ◌∙◌, if◌then◌else◌}
+use Rattle.std.proofs.Common.{◌≡◌, ◌⊎◌, inl, inr, ℕ, ◌-◌, ◌<◌, ◌≤◌, ◌==◌, Bool, true, false, not, List, [], ◌∷◌, ◌++◌, length, get_or, option_map, Option, Some, None, IfSome, Result, Ok, Err, unwrap_or, refl, sym, ap, subst, ◌∙◌, if◌then◌else◌}
 use Rattle.std.specs.Int.{bit_at}
 use Rattle.std.specs.Option.{option_and_then, option_or}
-use Rattle.std.proofs.lemmas.Bool.{leb-false, or_parts}
 use Rattle.std.proofs.lemmas.List.{append-nil}
 use Rattle.scmi_codec.specs.Header.{HeaderFields}
 use Rattle.scmi_codec.specs.Payload.{begins_with_success, if_success}
-use Rattle.scmi_codec.specs.Reply.{Check, bit_0, other_bits, reply_unless}
 use Rattle.scmi_codec.specs.declared.status.Status.{Status}
-use Rattle.scmi_codec.specs.declared.status.Status.TheVariants as status
 use Rattle.scmi_codec.specs.declared.message.Message.{Message}
 use Rattle.scmi_codec.specs.declared.frame.Frame.TheVariants.{Good}
 use Rattle.scmi_codec.specs.declared.frame.Answer.TheVariants.{Reply, ChannelError}
 use Rattle.scmi_codec.specs.declared.command.Command as codec
 use Rattle.scmi_codec.specs.declared.command.Command.TheVariants.{Base, Power, Clock}
 use Rattle.scmi_codec.specs.declared.power_command.PowerCommand.{PowerCommand}
-use Rattle.scmi_codec.specs.declared.power_command.PowerCommand.TheVariants as power
 use Rattle.scmi_codec.specs.declared.clock_command.ClockCommand.{ClockCommand}
-use Rattle.scmi_codec.specs.declared.clock_command.ClockCommand.TheVariants as clock
-use Rattle.scmi_plan.specs.Board.{Board, domain_at, is_absent}
-use Rattle.scmi_plan.specs.declared.resource.Resource.TheVariants as resource
+use Rattle.scmi_plan.specs.Board.{Board}
 use Rattle.scmi_plan.specs.Plan.{IsValid}
-use Rattle.scmi_power.specs.PowerReply.{has_kind, is_state, may_set, no_domain, power_reply}
 use Rattle.scmi_power.specs.PowerTable as power_table
 use Rattle.scmi_power.specs.PowerTable.{PowerTables, is_subscribed, set_later, set_now, state_at}
-use Rattle.scmi_clock.specs.ClockReply.{clock_reply, config_checks, disables_kept, set_checks}
 use Rattle.scmi_clock.specs.ClockTable as clock_table
 use Rattle.scmi_clock.specs.ClockTable.{ClockTables, enabled_now, rate_later, rate_now}
-use Rattle.scmi_clock.specs.SetFlags.{is_asynchronous, is_response_wanted}
 use Rattle.scmi_plan.specs.declared.effect.Effect.{Effect}
 use Rattle.scmi_plan.specs.declared.effect.Effect.TheVariants as effect
+use Rattle.scmi_power.specs.PowerProtocol.{state_effect}
+use Rattle.scmi_power.proofs.PowerLaws.{power_laws}
+use Rattle.scmi_clock.specs.ClockProtocol.{clock_effect, later_effect}
+use Rattle.scmi_clock.proofs.ClockLaws.{clock_laws, never_both}
 use Rattle.scmi_core.specs.declared.tables.Tables.{Tables}
 use Rattle.scmi_core.specs.Deed.{success_of, success_with}
-use Rattle.scmi_core.specs.Effect.{clock_effect, effect_in, effect_of, effect_read, state_effect}
+use Rattle.scmi_core.specs.Effect.{effect_in, effect_of, effect_read}
 use Rattle.scmi_core.specs.ReadCommand.{command_on}
 use Rattle.scmi_core.specs.Reply.{answer_in, fits_channel, reply_in, reply_words}
 use Rattle.scmi_core.specs.Situation.{Situation, clock_view, power_view}
@@ -43,43 +38,12 @@ use Rattle.scmi_core.proofs.ClockSteps.{change-base, clock-stepped}
 use Rattle.scmi_core.proofs.EffectsMade.{power-effect, clock-effect}
 use Rattle.scmi_core.proofs.Steps.{no_request, of_success, power-stepped}
 
--- a reply by its checks that succeeded is the row, and its first check passed
-passed : (checks : List Check) → begins_with_success (reply_unless checks (0 ∷ [])) ≡ true → reply_unless checks (0 ∷ []) ≡ 0 ∷ []
-passed [] ok = refl
-passed ((true, status.Success) ∷ checks) ok = refl
-passed ((true, status.NotSupported) ∷ checks) ok = absurd (cc)
-passed ((true, status.InvalidParameters) ∷ checks) ok = absurd (cc)
-passed ((true, status.Denied) ∷ checks) ok = absurd (cc)
-passed ((true, status.NotFound) ∷ checks) ok = absurd (cc)
-passed ((true, status.OutOfRange) ∷ checks) ok = absurd (cc)
-passed ((true, status.Busy) ∷ checks) ok = absurd (cc)
-passed ((true, status.CommsError) ∷ checks) ok = absurd (cc)
-passed ((true, status.GenericError) ∷ checks) ok = absurd (cc)
-passed ((true, status.HardwareError) ∷ checks) ok = absurd (cc)
-passed ((true, status.ProtocolError) ∷ checks) ok = absurd (cc)
-passed ((false, e) ∷ checks) ok = passed checks ok
-
-found : (count d : ℕ) (absent : Bool) (checks : List Check) → begins_with_success (reply_unless ((nat_le count d || absent, status.NotFound) ∷ checks) (0 ∷ [])) ≡ true → d < count
-found count d absent checks ok = leb-false count d (or_parts _ _ (by (nat_le count d || absent) ok)).0 where
-  by : (b : Bool) → begins_with_success (reply_unless ((b, status.NotFound) ∷ checks) (0 ∷ [])) ≡ true → b ≡ false
-  by true same = absurd (cc)
-  by false same = refl
-
 -- what succeeded and what it said
 succeeded : {A : Type 0} (reply : List ℕ) (o : Option A) (x : A) → if_success reply o ≡ Some x → begins_with_success reply ≡ true
 succeeded reply o x e = by (begins_with_success reply) e where
   by : (b : Bool) → (if b then o else None) ≡ Some x → b ≡ true
   by true same = refl
   by false same = absurd (cc)
-
--- a set at once, which says nothing for later
-at_once : {A : Type 0} (b : Bool) (x y : A) → (if b then None else Some x) ≡ Some y → x ≡ y
-at_once true x y e = absurd (cc)
-at_once false x y e = cc
-
-none_later : {A B : Type 0} (b : Bool) (x y : A) (z : B) → (if b then None else Some x) ≡ Some y → (if b then Some z else None) ≡ None
-none_later true x y z e = absurd (cc)
-none_later false x y z e = refl
 
 -- the command that has an effect
 no_effect : (board : Board) (a : ℕ) (header : HeaderFields) (e : Status) (reply : List ℕ) → change_of board (success_of a header (Err e) reply) None ≡ None
@@ -160,85 +124,71 @@ module _ (board : Board) (a : ℕ) (header : HeaderFields) (s : Situation) where
     pub reply : reply_words board a s r ≡ 0 ∷ []
     pub known : c < length board.clocks
 
-  -- the checks of a set of a domain's state
-  abbrev power_checks : (flags domain state : ℕ) → List Check
-  power_checks flags domain state =
-      let v = power_view board a s in
-      (no_domain board domain, status.NotFound)
-      ∷ (other_bits flags || not (is_state state), status.InvalidParameters)
-      ∷ (not (has_kind v.channel (domain_at board domain) flags), status.NotSupported)
-      ∷ (not (may_set board (v.may domain) domain state), status.Denied)
-      ∷ (v.busy domain || (bit_0 flags && not v.room), status.Busy)
-      ∷ []
-
-  -- the checks of a set of a clock's rate, and of a configuration
-  abbrev rate_checks : (flags k asked : ℕ) → List Check
-  rate_checks flags k asked = let v = clock_view board a s in set_checks board v.channel (v.may k) (v.busy k) v.room flags k asked
-
-  abbrev clock_checks : (k attributes : ℕ) → List Check
-  clock_checks k attributes = config_checks board ((clock_view board a s).may k && not (disables_kept board k attributes)) k attributes
-
   power-passed : (command : PowerCommand) (d state : ℕ) → set_now command ≡ Some (d, state) → begins_with_success (reply_words board a s (Ok (Power command))) ≡ true → IsStateSet (Ok (Power command)) d state
-  unfolding reply_words power_reply
-  power-passed power.Version d state e ok = absurd (cc)
-  power-passed power.Attributes d state e ok = absurd (cc)
-  power-passed (power.MessageAttributes message) d state e ok = absurd (cc)
-  power-passed (power.DomainAttributes domain) d state e ok = absurd (cc)
-  power-passed (power.Get domain) d state e ok = absurd (cc)
-  power-passed (power.Notify domain enable) d state e ok = absurd (cc)
-  power-passed (power.Set flags domain state') d state e ok =
+  unfolding reply_words
+  power-passed command d state e ok =
+      let v = power_view board a s in
+      let made = effect.State d state in
+      let now : option_map state_effect (set_now command) ≡ Some made = ap (option_map state_effect) e in
       record {
-        command = power.Set flags domain state';
+        command = command;
         read = refl;
         now = e;
-        later = none_later {A = ℕ × ℕ} {B = ℕ × ℕ} (bit_0 flags) (domain, state') (d, state) (domain, state') e;
-        reply = passed (power_checks flags domain state') ok;
-        known = subst (λ set. set.0 < length board.domains) (at_once {A = ℕ × ℕ} (bit_0 flags) (domain, state') (d, state) e) (found (length board.domains) domain (is_absent board (resource.Domain domain)) (drop 1 (power_checks flags domain state')) ok);
-      }
+        later = by (set_now command) (set_later command) e (power_laws.once board command);
+        reply = power_laws.made board v command made ok now;
+        known = power_laws.known board v command made ok now;
+      } where
+        by : (now later : Option (ℕ × ℕ)) → now ≡ Some (d, state) → ((e : Effect) → option_map state_effect later ≡ Some e → option_map state_effect now ≡ None) → later ≡ None
+        by now None some once = refl
+        by None (Some set) some once = absurd (cc)
+        by (Some x) (Some set) some once = absurd (let no = once (state_effect set) refl in cc)
+
+  -- what a command makes at once leaves nothing for later
+  none_later : (rate : Option (ℕ × ℕ)) (enabled : Option (ℕ × Bool)) (later : Option (ℕ × ℕ × Bool)) (made : Effect) → clock_effect rate enabled ≡ Some made
+      → ((e : Effect) → option_map later_effect later ≡ Some e → clock_effect rate enabled ≡ None) → later ≡ None
+  none_later rate enabled None made now once = refl
+  none_later rate enabled (Some set) made now once = absurd (let no = sym (once (later_effect set) refl) ∙ now in cc)
 
   rate-passed : (command : ClockCommand) (c rate : ℕ) → rate_now board command ≡ Some (c, rate) → begins_with_success (reply_words board a s (Ok (Clock command))) ≡ true → IsRateSet (Ok (Clock command)) c rate
-  unfolding reply_words clock_reply
-  rate-passed clock.Version c rate e ok = absurd (cc)
-  rate-passed clock.Attributes c rate e ok = absurd (cc)
-  rate-passed (clock.MessageAttributes message) c rate e ok = absurd (cc)
-  rate-passed (clock.ClockAttributes k) c rate e ok = absurd (cc)
-  rate-passed (clock.Describe k index) c rate e ok = absurd (cc)
-  rate-passed (clock.GetRate k) c rate e ok = absurd (cc)
-  rate-passed (clock.Config k attributes) c rate e ok = absurd (cc)
-  rate-passed (clock.SetRate flags k asked) c rate e ok =
+  unfolding reply_words
+  rate-passed command c rate e ok =
+      let v = clock_view board a s in
+      let made = effect.Rate c rate in
+      let now : clock_effect (rate_now board command) (enabled_now command) ≡ Some made = ap (λ o. clock_effect o (enabled_now command)) e in
       record {
-        command = clock.SetRate flags k asked;
+        command = command;
         read = refl;
         now = e;
-        later =
-            none_later {A = ℕ × ℕ} {B = ℕ × ℕ × Bool} (is_asynchronous flags) (k, clock_table.set_rate board flags k asked) (c, rate)
-            (k, clock_table.set_rate board flags k asked, is_response_wanted flags) e;
-        other = refl;
-        reply = passed (rate_checks flags k asked) ok;
-        known =
-            subst (λ set. set.0 < length board.clocks) (at_once {A = ℕ × ℕ} (is_asynchronous flags) (k, clock_table.set_rate board flags k asked) (c, rate) e)
-            (found (length board.clocks) k (is_absent board (resource.Clock k)) (drop 1 (rate_checks flags k asked)) ok);
-      }
+        later = none_later (rate_now board command) (enabled_now command) (rate_later board command) made now (clock_laws.once board command);
+        other = by (rate_now board command) (enabled_now command) e (never_both board command);
+        reply = clock_laws.made board v command made ok now;
+        known = clock_laws.known board v command made ok now;
+      } where
+        by : (now : Option (ℕ × ℕ)) (enabled : Option (ℕ × Bool)) → now ≡ Some (c, rate) → (now ≡ None) ⊎ (enabled ≡ None) → enabled ≡ None
+        by None enabled some either = absurd (cc)
+        by (Some x) enabled some (inl gone) = absurd (cc)
+        by (Some x) enabled some (inr none) = none
 
   config-passed : (command : ClockCommand) (c : ℕ) (enabled : Bool) → enabled_now command ≡ Some (c, enabled) → begins_with_success (reply_words board a s (Ok (Clock command))) ≡ true → IsConfig (Ok (Clock command)) c enabled
-  unfolding reply_words clock_reply
-  config-passed clock.Version c enabled e ok = absurd (cc)
-  config-passed clock.Attributes c enabled e ok = absurd (cc)
-  config-passed (clock.MessageAttributes message) c enabled e ok = absurd (cc)
-  config-passed (clock.ClockAttributes k) c enabled e ok = absurd (cc)
-  config-passed (clock.Describe k index) c enabled e ok = absurd (cc)
-  config-passed (clock.GetRate k) c enabled e ok = absurd (cc)
-  config-passed (clock.SetRate flags k asked) c enabled e ok = absurd (cc)
-  config-passed (clock.Config k attributes) c enabled e ok =
+  unfolding reply_words
+  config-passed command c enabled e ok =
+      let v = clock_view board a s in
+      let made = effect.Enabled c enabled in
+      let other : rate_now board command ≡ None = by (rate_now board command) (enabled_now command) e (never_both board command) in
+      let now : clock_effect (rate_now board command) (enabled_now command) ≡ Some made = ap (λ o. clock_effect o (enabled_now command)) other ∙ ap (clock_effect None) e in
       record {
-        command = clock.Config k attributes;
+        command = command;
         read = refl;
         now = e;
-        later = refl;
-        other = refl;
-        reply = passed (clock_checks k attributes) ok;
-        known = subst (λ set. set.0 < length board.clocks) (at_once {A = ℕ × Bool} false (k, bit_0 attributes) (c, enabled) e) (found (length board.clocks) k (is_absent board (resource.Clock k)) (drop 1 (clock_checks k attributes)) ok);
-      }
+        later = none_later (rate_now board command) (enabled_now command) (rate_later board command) made now (clock_laws.once board command);
+        other = other;
+        reply = clock_laws.made board v command made ok now;
+        known = clock_laws.known board v command made ok now;
+      } where
+        by : (now : Option (ℕ × ℕ)) (on : Option (ℕ × Bool)) → on ≡ Some (c, enabled) → (now ≡ None) ⊎ (on ≡ None) → now ≡ None
+        by now None some either = absurd (cc)
+        by now (Some x) some (inl none) = none
+        by now (Some x) some (inr gone) = absurd (cc)
 
   pub state-set : (r : Result codec.Command Status) (d state : ℕ) → effect_by r ≡ Some (effect.State d state) → IsStateSet r d state
   state-set (Err e) d state has = absurd (let no = sym (ap (option_map effect_of) (no_effect board a header e (reply_words board a s (Err e)))) ∙ has in cc)
@@ -314,7 +264,7 @@ state-committed board t new power' a m d state differs law lo hi has states subs
     (0 ∷ []) (Some (d, state)) None differs law.few_domains law.few_agents lo hi (sym set.now) (sym set.later) states
     (λ x e lo' hi' small.
     ap (λ l. bit_at (get_or l e 0) (x - 1) == 1) subs
-    ∙ ap (λ o. unwrap_or o (is_subscribed t.power x e)) (sym (no_request set.command (d, state) x e a set.now)))
+    ∙ ap (λ o. unwrap_or o (is_subscribed t.power x e)) (sym (no_request board set.command (d, state) x e a set.now)))
     set.known tt says
     (record { base = refl; power = refl; clocks = refl; outboxes = refl })
     (sym (append-nil t.pending)) kept told)

@@ -22,7 +22,9 @@ use Rattle.scmi_core.specs.Deed.{fold_with_prefix, restarted_by, success_of}
 use Rattle.scmi_core.specs.Asked.{Asked, IsAsked, Made, Refused, and_asked, made_of}
 use Rattle.scmi_core.specs.Driven.{HappensOn, HappensThere, HasMade, IsDriven, ask_after, asks, asks_from}
 use Rattle.scmi_core.specs.Standing.{Standing}
-use Rattle.scmi_core.specs.Effect.{clock_effect, commanded_effects, effect_after, effect_of, effects, state_effect}
+use Rattle.scmi_clock.specs.ClockProtocol.{clock_effect}
+use Rattle.scmi_power.specs.PowerProtocol.{state_effect}
+use Rattle.scmi_core.specs.Effect.{commanded_effects, effect_after, effect_of, effects}
 use Rattle.scmi_core.specs.History.{deeds, deed_after}
 use Rattle.scmi_core.specs.Value.{Change, bit_value, change_by, change_of, changes, commanded_by, commanded_changes, completion}
 use Rattle.scmi_core.specs.Legal.{IsLegal}

@@ -9,7 +9,7 @@ use Rattle.scmi_codec.specs.declared.status.Status.TheVariants.{NotSupported}
 use Rattle.scmi_plan.specs.Board.{Board}
 use Rattle.scmi_plan.specs.declared.effect.Effect.{Effect}
 use Rattle.scmi_core.specs.Deed.{success_of}
-use Rattle.scmi_core.specs.Effect.{effect_in, effect_of, effect_read, is_set_header}
+use Rattle.scmi_core.specs.Effect.{effect_in, effect_of, is_set_header}
 use Rattle.scmi_core.specs.ReadCommand.{command_on, lacks_protocol}
 use Rattle.scmi_core.specs.Reply.{fits_channel, reply_words}
 use Rattle.scmi_core.specs.Situation.{Situation}

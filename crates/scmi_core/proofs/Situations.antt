@@ -21,9 +21,7 @@ use Rattle.scmi_codec.specs.declared.clock_command.ClockCommand.{ClockCommand}
 use Rattle.scmi_plan.specs.declared.load.Load.{Load}
 use Rattle.scmi_power.specs.PowerReply.{power_reply}
 use Rattle.scmi_power.specs.PowerTable as power_table
-use Rattle.scmi_codec.specs.declared.power_command.PowerCommand.TheVariants as power
-use Rattle.scmi_codec.specs.declared.clock_command.ClockCommand.TheVariants as clock
-use Rattle.scmi_clock.specs.ClockReply.{clock_attributes_reply, clock_reply}
+use Rattle.scmi_clock.specs.ClockReply.{clock_reply}
 use Rattle.scmi_clock.specs.ClockTable as clock_table
 use Rattle.scmi_core.specs.declared.tables.Tables.{Tables}
 use Rattle.scmi_core.specs.declared.pending_set.PendingSet.{PendingSet}
@@ -35,7 +33,6 @@ use Rattle.scmi_core.specs.Situation.{Situation, has_room, power_view, clock_vie
 use Rattle.scmi_core.specs.Outbox.{messages_left, messages_made, made_in, notice_in, outbox_after, response_for, sent_count, situation_after, state_changed}
 use Rattle.scmi_core.specs.ReadCommand.{command_on}
 use Rattle.scmi_core.specs.Reply.{answer_in, fits_channel, reply_words, words_given}
-use Rattle.scmi_core.specs.Step.{set_clock, set_domain}
 use Rattle.scmi_core.specs.Tables.{IsThing, situation_in}
 use Rattle.scmi_core.proofs.Deeds.{messages_made-push, outbox-push}
 
@@ -145,36 +142,33 @@ module _ (board : Board) (a : ℕ) (s u : Situation) (same : SameSituation board
 
 -- what the protocols of power domains and clocks reply by tables and a load, which only a set reads, is the reply in the situation of the tables
 pub power-reply : (board : Board) (t : Tables) (a : ℕ) (load : Load) (c : PowerCommand) → length board.domains ≤ 32
-    → IfSome (set_domain c) (λ set. (d : ℕ) → d < 32 → (bit_at load.busy d == 1) ≡ has_set_of (resource.Domain d) t.pending)
-    → IfSome (set_domain c) (λ set. load.room ≡ has_room board a (situation_in a t))
+    → IfSome (power_table.set_domain c) (λ set. (d : ℕ) → d < 32 → (bit_at load.busy d == 1) ≡ has_set_of (resource.Domain d) t.pending)
+    → IfSome (power_table.set_domain c) (λ set. load.room ≡ has_room board a (situation_in a t))
     → power_reply board (power_table.view_of board t.base t.power load a) c ≡ reply_words board a (situation_in a t) (Ok (Power c))
-unfolding reply_words power_reply
-power-reply board t a load power.Version few busy room = refl
-power-reply board t a load power.Attributes few busy room = refl
-power-reply board t a load (power.MessageAttributes message) few busy room = refl
-power-reply board t a load (power.DomainAttributes d) few busy room = refl
-power-reply board t a load (power.Set flags d state) few busy room =
-    power_same.power_reply-same board (power_table.view_of board t.base t.power load a) (power_view board a (situation_in a t))
-    (record { state = λ e small. refl; may = λ e small. refl; busy = λ e small. busy e (omega arith); room = room; channel = refl }) (power.Set flags d state)
-power-reply board t a load (power.Get d) few busy room = refl
-power-reply board t a load (power.Notify d enable) few busy room = refl
+unfolding reply_words
+power-reply board t a load c few busy room =
+    power_same.power_reply-loaded board (power_table.view_of board t.base t.power load a) (power_view board a (situation_in a t)) c refl refl refl
+    (below (power_table.set_domain c) busy) room
+  where
+    below : (o : Option ℕ) → IfSome o (λ set. (d : ℕ) → d < 32 → (bit_at load.busy d == 1) ≡ has_set_of (resource.Domain d) t.pending)
+        → IfSome o (λ set. (d : ℕ) → d < length board.domains → (bit_at load.busy d == 1) ≡ has_set_of (resource.Domain d) t.pending)
+    below None all = all
+    below (Some d) all = λ e small. all e (omega arith)
 
 bit_said : (b : Bool) → b ≡ (bit_value b == 1)
 bit_said true = refl
 bit_said false = refl
 
 pub clock-reply : (board : Board) (t : Tables) (a : ℕ) (load : Load) (c : ClockCommand) → length board.clocks ≤ 32
-    → IfSome (set_clock c) (λ set. (d : ℕ) → d < 32 → (bit_at load.busy d == 1) ≡ has_set_of (resource.Clock d) t.pending)
-    → IfSome (set_clock c) (λ set. load.room ≡ has_room board a (situation_in a t))
+    → IfSome (clock_table.set_clock c) (λ set. (d : ℕ) → d < 32 → (bit_at load.busy d == 1) ≡ has_set_of (resource.Clock d) t.pending)
+    → IfSome (clock_table.set_clock c) (λ set. load.room ≡ has_room board a (situation_in a t))
     → clock_reply board (clock_table.view_of board t.base t.clocks load a) c ≡ reply_words board a (situation_in a t) (Ok (Clock c))
-unfolding reply_words clock_reply
-clock-reply board t a load clock.Version few busy room = refl
-clock-reply board t a load clock.Attributes few busy room = refl
-clock-reply board t a load (clock.MessageAttributes message) few busy room = refl
-clock-reply board t a load (clock.ClockAttributes c) few busy room = ap (λ b. clock_attributes_reply board b c) (bit_said (clock_table.enabled_at t.clocks c))
-clock-reply board t a load (clock.Describe c index) few busy room = refl
-clock-reply board t a load (clock.SetRate flags c rate) few busy room =
-    clock_same.clock_reply-same board (clock_table.view_of board t.base t.clocks load a) (clock_view board a (situation_in a t))
-    (record { rate = λ e small. refl; enabled = λ e small. bit_said (clock_table.enabled_at t.clocks e); may = λ e small. refl; busy = λ e small. busy e (omega arith); room = room; channel = refl }) (clock.SetRate flags c rate)
-clock-reply board t a load (clock.GetRate c) few busy room = refl
-clock-reply board t a load (clock.Config c attributes) few busy room = refl
+unfolding reply_words
+clock-reply board t a load c few busy room =
+    clock_same.clock_reply-loaded board (clock_table.view_of board t.base t.clocks load a) (clock_view board a (situation_in a t)) c refl (λ e. bit_said (clock_table.enabled_at t.clocks e)) refl refl
+    (below (clock_table.set_clock c) busy) room
+  where
+    below : (o : Option ℕ) → IfSome o (λ set. (d : ℕ) → d < 32 → (bit_at load.busy d == 1) ≡ has_set_of (resource.Clock d) t.pending)
+        → IfSome o (λ set. (d : ℕ) → d < length board.clocks → (bit_at load.busy d == 1) ≡ has_set_of (resource.Clock d) t.pending)
+    below None all = all
+    below (Some d) all = λ e small. all e (omega arith)

@@ -9,13 +9,14 @@ use Rattle.scmi_codec.specs.Payload.{begins_with_success}
 use Rattle.scmi_codec.specs.declared.message.Message.{Message}
 use Rattle.scmi_codec.specs.declared.command.Command.TheVariants.{Power}
 use Rattle.scmi_codec.specs.declared.power_command.PowerCommand.{PowerCommand}
-use Rattle.scmi_codec.specs.declared.power_command.PowerCommand.TheVariants as power
 use Rattle.scmi_plan.specs.Board.{Board}
 use Rattle.scmi_base.specs.Permission.{is_allowed}
 use Rattle.scmi_plan.specs.declared.scope.Scope.{Scope}
 use Rattle.scmi_power.specs.PowerTable.{PowerTables, state_at, is_subscribed, set_to, set_now, set_later, notification}
 use Rattle.scmi_codec.specs.Payload.{if_success}
 use Rattle.scmi_clock.specs.ClockTable.{ClockTables, rate_at, enabled_at}
+use Rattle.scmi_power.specs.PowerProtocol.{state_effect}
+use Rattle.scmi_power.proofs.PowerLaws.{power_laws}
 use Rattle.scmi_core.specs.declared.pending_set.PendingSet.{PendingSet}
 use Rattle.scmi_core.specs.declared.pending_set.Setting.TheVariants as setting
 use Rattle.scmi_core.specs.declared.tables.Tables.{Tables}
@@ -113,14 +114,8 @@ later-known board a header None lo hi h = all_none (IsOfBoard board)
 later-known board a header (Some set) lo hi h = all_one (IsOfBoard board) (state_set a header set) (record { first = lo; last = hi; thing = h })
 
 -- a set asks for no notification
-pub no_request : (c : PowerCommand) (set : ℕ × ℕ) (x d a : ℕ) → set_now c ≡ Some set → notification x d a c ≡ None
-no_request power.Version set x d a e = refl
-no_request power.Attributes set x d a e = refl
-no_request (power.MessageAttributes message) set x d a e = refl
-no_request (power.DomainAttributes domain) set x d a e = refl
-no_request (power.Get domain) set x d a e = refl
-no_request (power.Notify domain enable) set x d a e = absurd (cc)
-no_request (power.Set flags domain state) set x d a e = refl
+pub no_request : (board : Board) (c : PowerCommand) (set : ℕ × ℕ) (x d a : ℕ) → set_now c ≡ Some set → notification x d a c ≡ None
+no_request board c set x d a e = power_laws.alone board c (state_effect set) x d a (ap (option_map state_effect) e)
 
 pub of_success : {A : Type 0} (reply : List ℕ) (o : Option A) (x : A) → Some x ≡ if_success reply o → o ≡ Some x
 of_success reply o x e = by (begins_with_success reply) e where
@@ -194,7 +189,7 @@ power-stepped board t n new power' a header c reply changed later differs few fe
           let now : set_now c ≡ Some set = of_success reply (set_now c) set (sym e ∙ is_changed) in
           let inside : set.0 < length board.domains = subst (λ o. IfSome o (λ s. s.0 < length board.domains)) e known in (
             subst (λ o. IfSome o (λ s. differs ≡ not (s.1 == state_at t.power s.0))) e says,
-            ap (λ p. is_subscribed p x set.0) kept1.power ∙ subs x set.0 lo' (omega (arith, few_agents)) (omega (arith, few)) ∙ nothing_asked reply (notification x set.0 a c) (is_subscribed t.power x set.0) (no_request c set x set.0 a now),
+            ap (λ p. is_subscribed p x set.0) kept1.power ∙ subs x set.0 lo' (omega (arith, few_agents)) (omega (arith, few)) ∙ nothing_asked reply (notification x set.0 a c) (is_subscribed t.power x set.0) (no_request board c set x set.0 a now),
           )
 
 -- COMPLETION

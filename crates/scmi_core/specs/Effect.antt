@@ -1,6 +1,5 @@
 -- What a history changes of the hardware.
 use Rattle.std.specs.Prelude.{ℕ, ◌==◌, ◌&&◌, ◌||◌, Bool, false, if◌then◌else◌, List, Option, None, option_map, map}
-use Rattle.std.specs.Option.{option_or}
 use Rattle.scmi_codec.specs.declared.header.Header.{Header}
 use Rattle.scmi_codec.specs.declared.message.Message.{Message}
 use Rattle.scmi_codec.specs.declared.frame.Frame.{Frame}
@@ -30,14 +29,6 @@ effect_of change = given_to change.thing where
 abbrev pub setting_effect : Setting → Effect
 setting_effect (setting.State d state) = effect.State d state
 setting_effect (setting.Rate c rate) = effect.Rate c rate
-
--- a domain and a state that it is given
-abbrev pub state_effect : ℕ × ℕ → Effect
-state_effect set = effect.State set.0 set.1
-
--- a clock that is given a rate, or else one that is enabled or disabled
-abbrev pub clock_effect : Option (ℕ × ℕ) → Option (ℕ × Bool) → Option Effect
-clock_effect rate enabled = option_or (option_map (λ set. effect.Rate set.0 set.1) rate) (option_map (λ set. effect.Enabled set.0 set.1) enabled)
 
 -- the effect that an event has after a history, if it has one
 abbrev pub effect_after : Board → List Event → Event → Option Effect

@@ -7,11 +7,7 @@ use Rattle.scmi_codec.specs.declared.status.Status.{Status}
 use Rattle.scmi_codec.specs.declared.message.Message.{Message}
 use Rattle.scmi_codec.specs.declared.frame.Frame.{Frame}
 use Rattle.scmi_codec.specs.declared.frame.Frame.TheVariants.{Good, Malformed}
-use Rattle.scmi_codec.specs.declared.power_command.PowerCommand.{PowerCommand}
 use Rattle.scmi_codec.specs.declared.command.Command as codec
-use Rattle.scmi_codec.specs.declared.power_command.PowerCommand.TheVariants as power
-use Rattle.scmi_codec.specs.declared.clock_command.ClockCommand.{ClockCommand}
-use Rattle.scmi_codec.specs.declared.clock_command.ClockCommand.TheVariants as clock
 use Rattle.scmi_plan.specs.Board.{Board}
 use Rattle.scmi_plan.specs.declared.limits.TheConstants.{AGENTS, DEVICES, DOMAINS}
 use Rattle.scmi_base.specs.Permission.{is_allowed}
@@ -100,16 +96,6 @@ pub record HasReported (board : Board) (change : Change) (t new : Tables) : Type
   pub known : IsThing board change.thing
   pub pending : new.pending ≡ t.pending
   pub outboxes : (a : ℕ) → 1 ≤ a → a ≤ length board.agents → Gets t.outboxes new.outboxes a (made_in a (situation_in a t) t.pending None (Some change))
-
--- the domain that a command sets
-abbrev pub set_domain : PowerCommand → Option ℕ
-set_domain (power.Set flags d state) = Some d
-set_domain _ = None
-
--- the clock whose rate a command sets
-abbrev pub set_clock : ClockCommand → Option ℕ
-set_clock (clock.SetRate flags c rate) = Some c
-set_clock _ = None
 
 -- the notification of a domain's new state to agent a, if it asked for that and has room
 abbrev pub told_at : Tables → ℕ → ℕ → ℕ → ℕ → List Message

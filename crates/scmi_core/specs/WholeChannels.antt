@@ -7,7 +7,7 @@ use Rattle.scmi_codec.specs.declared.frame.Answer.TheVariants.{Reply}
 use Rattle.scmi_codec.specs.declared.frame.Frame.TheVariants.{Good}
 use Rattle.scmi_codec.specs.declared.message.Message.{Message}
 use Rattle.scmi_codec.specs.declared.status.Status.TheVariants.{NotFound, InvalidParameters, NotSupported, Denied, Busy}
-use Rattle.scmi_plan.specs.Board.{Board, channel_of, clock_at, domain_at, whole_channel}
+use Rattle.scmi_plan.specs.Board.{Board, channel_of, domain_at, whole_channel}
 use Rattle.scmi_plan.specs.declared.domain.Domain.{Domain}
 use Rattle.scmi_plan.specs.Rates as rates
 use Rattle.scmi_power.specs.PowerReply.{attributes, bit, is_state, no_domain, notify_reply, set_reply}

@@ -6,7 +6,8 @@ ghost use Rattle.scmi_base.specs.Permission.{is_allowed};
 ghost use Rattle.scmi_plan.specs.declared.scope.Scope.{Scope};
 ghost use Rattle.scmi_codec.specs.declared.frame.Frame.TheVariants.{Good};
 ghost use Rattle.scmi_codec.specs.declared.command.Command.TheVariants.{Base, Power, Clock};
-ghost use Rattle.scmi_power.specs.PowerTable.{is_subscribed};
+ghost use Rattle.scmi_power.specs.PowerTable.{is_subscribed, set_domain};
+ghost use Rattle.scmi_clock.specs.ClockTable.{set_clock};
 ghost use Rattle.scmi_plan.specs.Agent.{IsAgent};
 ghost use Rattle.scmi_plan.specs.Plan.{IsValid};
 ghost use Rattle.scmi_plan.specs.declared.resource.Resource.TheVariants as resource;
@@ -18,7 +19,7 @@ ghost use Rattle.scmi_core.specs.Situation.{has_room};
 ghost use Rattle.scmi_core.specs.Subscriptions.{subscription_after_reset};
 ghost use Rattle.scmi_core.specs.Reply.{answer_in, reply_words};
 ghost use Rattle.scmi_core.specs.Tables.{outbox_at, load_at, value_at, situation_in, IsThing, IsOfBoard};
-ghost use Rattle.scmi_core.specs.Step.{Accepts, HasFailed, HasStepped, HasExecuted, HasAnswered, set_clock, set_domain, SameButPending};
+ghost use Rattle.scmi_core.specs.Step.{Accepts, HasFailed, HasStepped, HasExecuted, HasAnswered, SameButPending};
 ghost use Rattle.scmi_core.specs.declared.outboxes.TheConstants.{OUTBOX_ROOM};
 ghost use Rattle.scmi_plan.specs.declared.limits.TheConstants.{PENDING_SETS};
 

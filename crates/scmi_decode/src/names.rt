@@ -3,13 +3,7 @@ ghost use Rattle.std.specs.Prelude.{◌≡◌};
 ghost use Rattle.std.specs.Option.{option_copied};
 ghost use Rattle.scmi_decode.specs.Names.{status_text, protocol_text, notification_text};
 
-use scmi_codec::{BASE_PROTOCOL, CLOCK_PROTOCOL, POWER_PROTOCOL, Status};
-
-const BASE: &str = "base";
-
-const POWER: &str = "power";
-
-const CLOCK: &str = "clock";
+use scmi_codec::{POWER_PROTOCOL, Status, protocol_row};
 
 const POWER_STATE_CHANGED: &str = "POWER_STATE_CHANGED";
 
@@ -24,11 +18,9 @@ pub fn status_name(status: Status) -> &'static str
 pub fn protocol_name(protocol: u8) -> Option<&'static str>
     ensures { option_copied result ≡ protocol_text protocol }
 {
-    match protocol {
-        BASE_PROTOCOL => Some(BASE),
-        POWER_PROTOCOL => Some(POWER),
-        CLOCK_PROTOCOL => Some(CLOCK),
-        _ => None,
+    match protocol_row(protocol) {
+        Some(row) => Some(row.name),
+        None => None,
     }
 }
 

@@ -3,20 +3,11 @@ use Rattle.std.proofs.Common.{◌≡◌, inl, inr, ℕ, ◌<◌, ◌≤◌, Bool
 use Rattle.std.specs.List.{AllZip}
 use Rattle.std.specs.Option.{option_and_then, option_or, option_to_list}
 use Rattle.std.proofs.lemmas.List.{append_assoc, append-nil, length-append}
-use Rattle.scmi_codec.specs.Header.{HeaderFields}
-use Rattle.scmi_codec.specs.Reply.{bit_0}
 use Rattle.scmi_codec.specs.declared.frame.Frame.TheVariants.{Good, Malformed}
 use Rattle.scmi_codec.specs.declared.message.Message.{Message}
 use Rattle.scmi_codec.specs.declared.command.Command as codec
-use Rattle.scmi_codec.specs.declared.command.Command.TheVariants.{Base, Power, Clock}
-use Rattle.scmi_codec.specs.declared.power_command.PowerCommand.{PowerCommand}
-use Rattle.scmi_codec.specs.declared.power_command.PowerCommand.TheVariants as power
-use Rattle.scmi_codec.specs.declared.clock_command.ClockCommand.{ClockCommand}
-use Rattle.scmi_codec.specs.declared.clock_command.ClockCommand.TheVariants as clock
 use Rattle.scmi_plan.specs.Agent.{IsAgent}
 use Rattle.scmi_plan.specs.Board.{Board}
-use Rattle.scmi_clock.specs.ClockTable.{set_rate}
-use Rattle.scmi_clock.specs.SetFlags.{is_asynchronous, is_response_wanted}
 use Rattle.scmi_plan.specs.declared.effect.Effect.{Effect}
 use Rattle.scmi_core.specs.declared.event.Event.{Event}
 use Rattle.scmi_core.specs.declared.event.Event.TheVariants.{Command, Advance, Sent, CommandFailed, AdvanceFailed, Restarted, Reported}
@@ -26,11 +17,11 @@ use Rattle.scmi_core.specs.History.{deed_after, deeds}
 use Rattle.scmi_core.specs.Laws.{change_asked, may_after}
 use Rattle.scmi_core.specs.Legal.{CanFollow, IsLegal}
 use Rattle.scmi_core.specs.Outbox.{situation_after}
-use Rattle.scmi_core.specs.Pending.{acceptance, pending_sets, rate_set, state_set, unwanted}
+use Rattle.scmi_core.specs.Pending.{acceptance, pending_sets, unwanted}
 use Rattle.scmi_core.specs.ReadCommand.{command_on}
 use Rattle.scmi_core.specs.Reply.{fits_channel, reply_words}
 use Rattle.scmi_core.specs.Value.{Change, change_now, change_reported, changes, completion}
-use Rattle.scmi_core.proofs.Causes.{IsOwn, asked-own}
+use Rattle.scmi_core.proofs.Causes.{IsOwn, asked-own, later, later-asked, now-asked}
 use Rattle.scmi_core.proofs.Following.{change_in, pending_next}
 use Rattle.scmi_core.proofs.Legal.{Grown, IsLegal-front, IsLegal-last, empty, grow, grown}
 use Rattle.scmi_laws.specs.Causes.{CameOf, HasOwnCauses}
@@ -39,70 +30,10 @@ use Rattle.scmi_laws.proofs.Apart.{AllBelow, Apart, all-pairs, apart-front, apar
 
 -- A SUCCESS CHANGES AT ONCE OR IS ACCEPTED FOR LATER, NEVER BOTH
 
-module _ (board : Board) (a : ℕ) (header : HeaderFields) (p : PendingSet) where
-  abbrev success : codec.Command → Success
-  success c = record { caller = a; header = header; command = c }
-
-  -- what is set now is not set later
-  not_now : {A B X Y : Type 0} (f : A → X) (x : A) (g : B → Y) (b : B) (y : Y) (later : Bool)
-      → option_map g (if later then Some b else None) ≡ Some y
-      → option_map f (if later then None else Some x) ≡ None
-  not_now f x g b y true is = refl
-  not_now f x g b y false is = absurd (cc)
-
-  power-later : (c : PowerCommand) → acceptance board (success (Power c)) ≡ Some p
-      → change_now board (success (Power c)) ≡ None
-  power-later power.Version is = refl
-  power-later power.Attributes is = refl
-  power-later (power.MessageAttributes message) is = refl
-  power-later (power.DomainAttributes d) is = refl
-  power-later (power.Get d) is = refl
-  power-later (power.Notify d enable) is = refl
-  power-later (power.Set flags d state) is =
-      let to : ℕ × ℕ = (d, state) in
-      not_now _ to (state_set a header) to p (bit_0 flags) is
-
-  clock-later : (c : ClockCommand) → acceptance board (success (Clock c)) ≡ Some p
-      → change_now board (success (Clock c)) ≡ None
-  clock-later clock.Version is = refl
-  clock-later clock.Attributes is = refl
-  clock-later (clock.MessageAttributes message) is = refl
-  clock-later (clock.ClockAttributes c) is = refl
-  clock-later (clock.Describe c index) is = refl
-  clock-later (clock.GetRate c) is = refl
-  clock-later (clock.Config c attributes) is = absurd (cc)
-  clock-later (clock.SetRate flags c rate) is =
-      let to = set_rate board flags c rate in
-      let wanted = is_response_wanted flags in
-      ap (λ now. option_or now None)
-      (not_now _ (c, to) (rate_set a header) (c, to, wanted) p (is_asynchronous flags) is)
-
-  later : (c : codec.Command) → acceptance board (success c) ≡ Some p
-      → change_now board (success c) ≡ None
-  later (Base c) is = refl
-  later (Power c) is = power-later c is
-  later (Clock c) is = clock-later c is
-
 later-not_now : (board : Board) (o : Option Success) (p : PendingSet)
     → option_and_then (acceptance board) o ≡ Some p → option_and_then (change_now board) o ≡ None
 later-not_now board None p is = refl
 later-not_now board (Some s) p is = later board s.caller s.header p s.command is
-
-later-asked : (board : Board) (o : Option Success) (p : PendingSet)
-    → option_and_then (acceptance board) o ≡ Some p
-    → option_and_then (change_asked board) o ≡ Some (completion p)
-later-asked board None p is = absurd (cc)
-later-asked board (Some s) p is =
-    ap (λ now. option_or now (option_map completion (acceptance board s)))
-    (later board s.caller s.header p s.command is)
-    ∙ ap (option_map completion) is
-
-now-asked : (board : Board) (o : Option Success) (change : Change)
-    → option_and_then (change_now board) o ≡ Some change
-    → option_and_then (change_asked board) o ≡ Some change
-now-asked board None change is = absurd (cc)
-now-asked board (Some s) change is =
-    ap (λ now. option_or now (option_map completion (acceptance board s))) is
 
 -- THE EVENT AT A PLACE
 

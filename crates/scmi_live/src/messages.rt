@@ -1,20 +1,10 @@
 //! Messages and protocols by their names.
-ghost use Rattle.std.specs.Prelude.{◌≡◌, map};
-ghost use Rattle.scmi_codec.specs.Listing.{said};
-ghost use Rattle.scmi_live.specs.Messages.{id_in, id_of, message_named, protocol_named, protocol_of};
+ghost use Rattle.std.specs.Prelude.{◌≡◌, None, map};
+ghost use Rattle.scmi_codec.specs.Listing.{protocol_said, said};
+ghost use Rattle.scmi_live.specs.Messages.{id_in, id_of, message_named, only_in, protocol_in, protocol_named, protocol_of};
 
 use scmi_board::byte;
-use scmi_codec::{
-    BASE_MESSAGES, BASE_PROTOCOL, CLOCK_MESSAGES, CLOCK_PROTOCOL, HeldRow, POWER_MESSAGES,
-    POWER_PROTOCOL, rows_of,
-};
-
-/// The names of the protocols.
-pub(crate) const BASE: &[u8] = b"base";
-
-pub(crate) const POWER: &[u8] = b"power";
-
-pub(crate) const CLOCK: &[u8] = b"clock";
+use scmi_codec::{HeldProtocol, HeldRow, PROTOCOLS, rows_of};
 
 /// The protocol that an item encodes: its number, or its name.
 pub(crate) fn protocol_of(item: &[u8]) -> Option<u8>
@@ -30,14 +20,18 @@ pub(crate) fn protocol_of(item: &[u8]) -> Option<u8>
 pub(crate) fn protocol_named(item: &[u8]) -> Option<u8>
     ensures { result ≡ protocol_named item.now }
 {
-    if item == BASE {
-        return Some(BASE_PROTOCOL);
-    }
-    if item == POWER {
-        return Some(POWER_PROTOCOL);
-    }
-    if item == CLOCK {
-        return Some(CLOCK_PROTOCOL);
+    protocol_in(&PROTOCOLS, item)
+}
+
+/// The first of these protocols that has this name.
+fn protocol_in(mut rows: &[HeldProtocol], name: &[u8]) -> Option<u8>
+    ensures { result ≡ protocol_in name.now (map protocol_said rows.entry.now) }
+{
+    while let [row, rest @ ..] = rows {
+        if row.name.as_bytes() == name {
+            return Some(row.id);
+        }
+        rows = rest;
     }
     None
 }
@@ -57,15 +51,24 @@ pub(crate) fn id_of(protocol: u8, item: &[u8]) -> Option<u8>
 pub(crate) fn message_named(item: &[u8]) -> Option<(u8, u8)>
     ensures { result ≡ message_named item.now }
 {
-    let base = id_in(&BASE_MESSAGES, item);
-    let power = id_in(&POWER_MESSAGES, item);
-    let clock = id_in(&CLOCK_MESSAGES, item);
-    match (base, power, clock) {
-        (Some(id), None, None) => Some((BASE_PROTOCOL, id)),
-        (None, Some(id), None) => Some((POWER_PROTOCOL, id)),
-        (None, None, Some(id)) => Some((CLOCK_PROTOCOL, id)),
-        _ => None,
+    only_in(&PROTOCOLS, item)
+}
+
+/// The message of this name that one of these protocols has, and no other of them.
+fn only_in(mut rows: &[HeldProtocol], name: &[u8]) -> Option<(u8, u8)>
+    ensures { result ≡ only_in name.now None (map protocol_said rows.entry.now) }
+{
+    let mut found: Option<(u8, u8)> = None;
+    while let [row, rest @ ..] = rows {
+        if let Some(id) = id_in(row.messages, name) {
+            if found.is_some() {
+                return None;
+            }
+            found = Some((row.id, id));
+        }
+        rows = rest;
     }
+    found
 }
 
 /// The id of the first of these messages that has this name.

@@ -8,10 +8,7 @@ use crate::rate::zeros_of;
 use crate::reports::{ENABLED, RATE, REPORT, STATE};
 use crate::word::{is_flags, words_of_item};
 use scmi_board::word;
-use scmi_codec::{
-    BASE_MESSAGES, CLOCK_MESSAGES, CLOCK_PROTOCOL, HeldRow, POWER_MESSAGES, POWER_PROTOCOL, Part,
-    listed_row, rows_of,
-};
+use scmi_codec::{CLOCK_PROTOCOL, POWER_PROTOCOL, PROTOCOLS, Part, listed_row, rows_of};
 use scmi_decode::protocol_name;
 use scmi_plan::RawPlan;
 use std::alloc::Global;
@@ -142,14 +139,13 @@ fn unknown_name<'a>(
     if let Some((protocol, id)) = message_named(name) {
         return unknown_payload(board, protocol, id, number, items);
     }
-    if is_in(&BASE_MESSAGES, name) || is_in(&POWER_MESSAGES, name) || is_in(&CLOCK_MESSAGES, name) {
+    if PROTOCOLS
+        .iter()
+        .any(|row| id_in(row.messages, name).is_some())
+    {
         return Some(Unknown::Shared(name));
     }
     Some(Unknown::Message(name))
-}
-
-fn is_in(rows: &[HeldRow], name: &[u8]) -> bool {
-    id_in(rows, name).is_some()
 }
 
 /// Why items, of which the first has this number in the line, are not the payload of a message.

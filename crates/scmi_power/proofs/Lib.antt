@@ -1,2 +1,3 @@
 pub mod ReplySame
 pub mod AgentBits
+pub mod PowerLaws

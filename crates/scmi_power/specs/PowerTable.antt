@@ -72,6 +72,11 @@ abbrev pub set_later : PowerCommand → Option (ℕ × ℕ)
 set_later (power.Set flags d state) = if bit_0 flags then Some (d, state) else None
 set_later _ = None
 
+-- the domain that a command sets
+abbrev pub set_domain : PowerCommand → Option ℕ
+set_domain (power.Set flags d state) = Some d
+set_domain _ = None
+
 -- what a caller's successful command says about the subscription of agent a to domain d
 abbrev pub notification : ℕ → ℕ → ℕ → PowerCommand → Option Bool
 notification a d caller (power.Notify domain enable) = if caller == a && domain == d then Some (bit_0 enable) else None

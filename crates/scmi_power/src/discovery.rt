@@ -5,12 +5,10 @@ ghost use Rattle.scmi_power.specs.PowerReply.{message_reply, domain_reply};
 use crate::checks::check_domain;
 use crate::domain_attributes::attributes_of;
 use scmi_codec::{
-    POWER_PROTOCOL, Payload, SUCCESS, Status, is_listed, name_words, set_payload, set_refusal,
+    POWER_PROTOCOL, POWER_VERSION, Payload, SUCCESS, Status, is_listed, name_words, set_payload,
+    set_refusal,
 };
 use scmi_plan::{AgentChannel, Plan};
-
-/// The version of the power domain protocol: major 2, minor 0.
-const VERSION: u32 = 0x0002_0000;
 
 /// The address and length of the statistics memory, of which there is none (own).
 const NO_STATISTICS: u32 = 0;
@@ -19,7 +17,7 @@ const NO_STATISTICS: u32 = 0;
 pub(crate) fn version(reply: &mut Payload)
     ensures { reply.new.items ≡ 0 ∷ 0x00020000 ∷ [] }
 {
-    set_payload(reply, &[SUCCESS, VERSION]);
+    set_payload(reply, &[SUCCESS, POWER_VERSION]);
 }
 
 /// 0x1: the number of domains, and where the statistics memory is.

@@ -13,7 +13,7 @@ pub commit-answered-requires-clause-effect : goal.commit-answered-requires-claus
 commit-answered-requires-clause-effect c =
     let waiting = c.desk.inside.waiting in
     let frame = c.desk.inside.exchange.frame in
-    let may = kept-of (IsAskable c.desk.inside.held) frame waiting (search rules) c.desk.invariant in
+    let may = kept-of (IsAskable c.desk.inside.held) frame waiting (search rules) c.desk.invariant.0.asked in
     effect-is c.desk.inside.held (asked_of frame waiting) c.effect_of-effect.result may c.effect_of-effect.ensures
 
 pub returns-clause-ok : goal.returns-clause-ok
@@ -23,7 +23,7 @@ returns-clause-ok c =
     let asked : Asked = asked_of frame waiting in
     let same : c.desk.inside.held ≡ c.args.desk.now.held = ap (λ (k : Kept). k.held) c.desk.view_is in
     let may : IsAskable c.args.desk.now.held asked =
-    subst (λ (p : Held). IsAskable p asked) same (kept-of (IsAskable c.desk.inside.held) frame waiting (search rules) c.desk.invariant) in
+    subst (λ (p : Held). IsAskable p asked) same (kept-of (IsAskable c.desk.inside.held) frame waiting (search rules) c.desk.invariant.0.asked) in
     let size : waiting.bytes ≡ length c.args.area.now = search rules in
     some-and c.args.desk.now.asked asked _ (search rules)
     (record {
@@ -44,7 +44,7 @@ returns-clause-said c =
     let frame = c.desk.inside.exchange.frame in
     let waiting = c.desk.inside.waiting in
     let asked : Asked = asked_of frame waiting in
-    let may = kept-of (IsAskable c.desk.inside.held) frame waiting (search rules) c.desk.invariant in
+    let may = kept-of (IsAskable c.desk.inside.held) frame waiting (search rules) c.desk.invariant.0.asked in
     some-and c.args.desk.now.asked asked _ (search rules)
     (record {
       effect = c.effect_of-effect.result;
@@ -57,7 +57,7 @@ returns-clause-clock c =
     let frame = c.desk.inside.exchange.frame in
     let waiting = c.desk.inside.waiting in
     let asked : Asked = asked_of frame waiting in
-    let may = kept-of (IsAskable c.desk.inside.held) frame waiting (search rules) c.desk.invariant in
+    let may = kept-of (IsAskable c.desk.inside.held) frame waiting (search rules) c.desk.invariant.0.asked in
     some-and c.args.desk.now.asked asked _ (search rules)
     (rate-clock c.desk.inside.held _ asked (Called waiting.agent frame) c.effect_of-effect.result may c.effect_of-effect.ensures
     c.commit-answered.ensures.clock c.commit-answered.ensures.event)

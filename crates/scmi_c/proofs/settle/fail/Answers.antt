@@ -8,7 +8,7 @@ pub refuse-requires-clause-effect : goal.refuse-requires-clause-effect
 refuse-requires-clause-effect c =
     let waiting = c.desk.inside.waiting in
     let frame = c.desk.inside.exchange.frame in
-    let may = kept-of (IsAskable c.desk.inside.held) frame waiting (search rules) c.desk.invariant in
+    let may = kept-of (IsAskable c.desk.inside.held) frame waiting (search rules) c.desk.invariant.0.asked in
     effect-is c.desk.inside.held (asked_of frame waiting) c.effect_of-effect.result may c.effect_of-effect.ensures
 
 pub returns-clause-driven : goal.returns-clause-driven
@@ -21,7 +21,7 @@ returns-clause-said c =
     let frame = c.desk.inside.exchange.frame in
     let waiting = c.desk.inside.waiting in
     let asked : Asked = asked_of frame waiting in
-    let may = kept-of (IsAskable c.desk.inside.held) frame waiting (search rules) c.desk.invariant in
+    let may = kept-of (IsAskable c.desk.inside.held) frame waiting (search rules) c.desk.invariant.0.asked in
     some-and c.args.fault c.in-Some.fault _ (search rules)
     (some-and c.args.desk.now.asked asked _ (search rules)
     (record {

@@ -11,13 +11,13 @@ use Rattle.scmi_c.proofs.settle_words.commit.Goals as goal
 
 pub channel_words-requires : goal.channel_words-requires
 channel_words-requires c =
-    record { size = (kept-of (IsAskable c.desk.inside.held) c.desk.inside.exchange.frame c.desk.inside.waiting (search rules) c.desk.invariant).size }
+    record { size = (kept-of (IsAskable c.desk.inside.held) c.desk.inside.exchange.frame c.desk.inside.waiting (search rules) c.desk.invariant.0.asked).size }
 
 pub commit-requires-clause-effect : goal.commit-requires-clause-effect
 commit-requires-clause-effect c =
     let waiting = c.desk.inside.waiting in
     let frame = c.desk.inside.exchange.frame in
-    let may = kept-of (IsAskable c.desk.inside.held) frame waiting (search rules) c.desk.invariant in
+    let may = kept-of (IsAskable c.desk.inside.held) frame waiting (search rules) c.desk.invariant.0.asked in
     effect-is c.desk.inside.held (asked_of frame waiting) c.effect_of-effect.result may c.effect_of-effect.ensures
 
 pub returns-clause-ok : goal.returns-clause-ok
@@ -27,7 +27,7 @@ returns-clause-ok c =
     let asked : Asked = asked_of frame waiting in
     let same : c.desk.inside.held ≡ c.args.desk.now.held = ap (λ (k : Kept). k.held) c.desk.view_is in
     let may : IsAskable c.args.desk.now.held asked =
-    subst (λ (p : Held). IsAskable p asked) same (kept-of (IsAskable c.desk.inside.held) frame waiting (search rules) c.desk.invariant) in
+    subst (λ (p : Held). IsAskable p asked) same (kept-of (IsAskable c.desk.inside.held) frame waiting (search rules) c.desk.invariant.0.asked) in
     let board = board_of c.args.desk.now.held in
     let few = may.words in
     let wide : 1 + channel_words waiting.bytes ≤ length c.args.reply.now = search rules in
@@ -50,7 +50,7 @@ returns-clause-said c =
     let frame = c.desk.inside.exchange.frame in
     let waiting = c.desk.inside.waiting in
     let asked : Asked = asked_of frame waiting in
-    let may = kept-of (IsAskable c.desk.inside.held) frame waiting (search rules) c.desk.invariant in
+    let may = kept-of (IsAskable c.desk.inside.held) frame waiting (search rules) c.desk.invariant.0.asked in
     some-and c.args.desk.now.asked asked _ (search rules)
     (record {
       effect = c.effect_of-effect.result;
@@ -63,7 +63,7 @@ returns-clause-clock c =
     let frame = c.desk.inside.exchange.frame in
     let waiting = c.desk.inside.waiting in
     let asked : Asked = asked_of frame waiting in
-    let may = kept-of (IsAskable c.desk.inside.held) frame waiting (search rules) c.desk.invariant in
+    let may = kept-of (IsAskable c.desk.inside.held) frame waiting (search rules) c.desk.invariant.0.asked in
     some-and c.args.desk.now.asked asked _ (search rules)
     (rate-clock c.desk.inside.held _ asked (Called waiting.agent frame) c.effect_of-effect.result may c.effect_of-effect.ensures
     c.commit.ensures.clock c.commit.ensures.event)

@@ -8,13 +8,13 @@ use Rattle.scmi_c.proofs.settle_words.fail.Goals as goal
 
 pub channel_words-requires : goal.channel_words-requires
 channel_words-requires c =
-    record { size = (kept-of (IsAskable c.desk.inside.held) c.desk.inside.exchange.frame c.desk.inside.waiting (search rules) c.desk.invariant).size }
+    record { size = (kept-of (IsAskable c.desk.inside.held) c.desk.inside.exchange.frame c.desk.inside.waiting (search rules) c.desk.invariant.0.asked).size }
 
 pub refuse-requires-clause-effect : goal.refuse-requires-clause-effect
 refuse-requires-clause-effect c =
     let waiting = c.desk.inside.waiting in
     let frame = c.desk.inside.exchange.frame in
-    let may = kept-of (IsAskable c.desk.inside.held) frame waiting (search rules) c.desk.invariant in
+    let may = kept-of (IsAskable c.desk.inside.held) frame waiting (search rules) c.desk.invariant.0.asked in
     effect-is c.desk.inside.held (asked_of frame waiting) c.effect_of-effect.result may c.effect_of-effect.ensures
 
 pub returns-clause-ok : goal.returns-clause-ok
@@ -22,7 +22,7 @@ returns-clause-ok c =
     let frame = c.desk.inside.exchange.frame in
     let waiting = c.desk.inside.waiting in
     let asked : Asked = asked_of frame waiting in
-    let may = kept-of (IsAskable c.desk.inside.held) frame waiting (search rules) c.desk.invariant in
+    let may = kept-of (IsAskable c.desk.inside.held) frame waiting (search rules) c.desk.invariant.0.asked in
     let wide : 1 + channel_words waiting.bytes ≤ length c.args.reply.now = search rules in
     some-and c.args.fault c.in-Some.fault _ (search rules)
     (some-and c.args.desk.now.asked asked _ (search rules)
@@ -41,7 +41,7 @@ returns-clause-said c =
     let frame = c.desk.inside.exchange.frame in
     let waiting = c.desk.inside.waiting in
     let asked : Asked = asked_of frame waiting in
-    let may = kept-of (IsAskable c.desk.inside.held) frame waiting (search rules) c.desk.invariant in
+    let may = kept-of (IsAskable c.desk.inside.held) frame waiting (search rules) c.desk.invariant.0.asked in
     some-and c.args.fault c.in-Some.fault _ (search rules)
     (some-and c.args.desk.now.asked asked _ (search rules)
     (record {

@@ -11,7 +11,7 @@ use Rattle.scmi_check.proofs.check.check_lines.Goals as goal
 pub lines-init : goal.lines-init
 lines-init g c = λ p r b way.
     read-none (g.N.Names.means c.args.names.now) p r b
-    (g.R.Read.remaining c.args.record.now) c.new-input.result.left c.args.check
+    (g.R.Read.remaining c.args.source.now) c.new-input.result.left c.args.check
     (g.L.Listener.judged c.args.listener.now) (g.L.Listener.noted c.args.listener.now)
     (c.new-input.ensures.left ∙ c.new-reader.ensures.left) way
 
@@ -24,7 +24,7 @@ lines-preserved g c = λ p r b way.
     let on : c.in-Ok.ended ≡ true = first_of (search (rules, tests), grind (arith, nat_tests), cc)
     in
     read-on (g.N.Names.means c.args.names.now) p r b
-    (g.R.Read.remaining c.args.record.now) c.lines.input.left c.lines.number c.lines.check
+    (g.R.Read.remaining c.args.source.now) c.lines.input.left c.lines.number c.lines.check
     (g.L.Listener.judged c.args.listener.now) (g.L.Listener.judged c.lines.listener)
     (g.L.Listener.noted c.args.listener.now) (g.L.Listener.noted c.lines.listener)
     (c.lines.invariant p r b way) c.as_slice.result.now c.in-Ok.ended first
@@ -36,7 +36,7 @@ lines-preserved g c = λ p r b way.
 pub returns-in-Err-clause-faults : goal.returns-in-Err-clause-faults
 returns-in-Err-clause-faults g c = λ p r b way.
     let M = g.N.Names.means c.args.names.now in
-    let known = g.R.Read.remaining c.args.record.now in
+    let known = g.R.Read.remaining c.args.source.now in
     let read = c.lines.invariant p r b way in
     subst (λ e. IfSome known (λ t. IsFaultOfRecord M p b t e)) (sym c.line_error.ensures)
     (read-fails M p b known c.lines.input.left read.first read.texts c.lines.number
@@ -50,7 +50,7 @@ returns-in-Err-add-clause-faults g c = λ p r b way.
     subst (λ (l : List ℕ). IfSome c.lines.input.left (λ input. l ≡ first_line input))
     (sym same) c.in-Ok.ensures.line in
     line-fails (g.N.Names.means c.args.names.now) p r b
-    (g.R.Read.remaining c.args.record.now) c.lines.input.left c.lines.number c.lines.check
+    (g.R.Read.remaining c.args.source.now) c.lines.input.left c.lines.number c.lines.check
     (g.L.Listener.judged c.args.listener.now) (g.L.Listener.judged c.lines.listener)
     (g.L.Listener.noted c.args.listener.now) (g.L.Listener.noted c.lines.listener)
     (c.lines.invariant p r b way) c.as_slice.result.now c.in-Ok.ended first
@@ -66,7 +66,7 @@ returns-then-not-ended-clause-found g c = λ p r b way.
     let off : c.in-Ok.ended ≡ false = first_of
     (search (rules, tests), grind (arith, nat_tests), cc) in
     ends-found (g.N.Names.means c.args.names.now) p r b
-    (g.R.Read.remaining c.args.record.now) c.lines.input.left c.lines.number c.lines.check
+    (g.R.Read.remaining c.args.source.now) c.lines.input.left c.lines.number c.lines.check
     (g.L.Listener.judged c.args.listener.now) (g.L.Listener.judged c.lines.listener)
     (g.L.Listener.noted c.args.listener.now) (g.L.Listener.noted c.lines.listener)
     (c.lines.invariant p r b way) c.as_slice.result.now c.in-Ok.ended first
@@ -87,7 +87,7 @@ returns-then-not-ended-clause-faults g c = λ p r b way.
     let off : c.in-Ok.ended ≡ false = first_of
     (search (rules, tests), grind (arith, nat_tests), cc) in
     ends-without (g.N.Names.means c.args.names.now) p r b
-    (g.R.Read.remaining c.args.record.now) c.lines.input.left c.lines.number c.lines.check
+    (g.R.Read.remaining c.args.source.now) c.lines.input.left c.lines.number c.lines.check
     (g.L.Listener.judged c.args.listener.now) (g.L.Listener.judged c.lines.listener)
     (g.L.Listener.noted c.args.listener.now) (g.L.Listener.noted c.lines.listener)
     (c.lines.invariant p r b way) c.as_slice.result.now c.in-Ok.ended first
@@ -105,7 +105,7 @@ returns-in-Err-clause-alone g c = λ p r b way.
 pub returns-in-Err-clause-before : goal.returns-in-Err-clause-before
 returns-in-Err-clause-before g c = λ p r b way.
     let M = g.N.Names.means c.args.names.now in
-    let known = g.R.Read.remaining c.args.record.now in
+    let known = g.R.Read.remaining c.args.source.now in
     let given = g.L.Listener.judged in
     let noted = g.L.Listener.noted in
     let first = c.args.listener.now in
@@ -126,7 +126,7 @@ returns-in-Err-add-clause-alone g c = λ p r b way.
 pub returns-in-Err-add-clause-before : goal.returns-in-Err-add-clause-before
 returns-in-Err-add-clause-before g c = λ p r b way.
     let M = g.N.Names.means c.args.names.now in
-    let known = g.R.Read.remaining c.args.record.now in
+    let known = g.R.Read.remaining c.args.source.now in
     let given = g.L.Listener.judged in
     let noted = g.L.Listener.noted in
     let start = c.args.listener.now in

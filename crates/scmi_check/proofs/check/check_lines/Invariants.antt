@@ -11,7 +11,7 @@ invariant-lines g l =
     (protocols : List ℕ) (may : Unseen) (board : Board)
     → IsUnderWay may board (nothing_shown protocols) [] [] l.fn.check
     → IsReadTo (g.N.Names.means l.fn.names) protocols may board
-    (g.R.Read.remaining l.fn.record) l.input.left l.number l.check
+    (g.R.Read.remaining l.fn.source) l.input.left l.number l.check
     (g.L.Listener.judged l.fn.listener) (g.L.Listener.judged l.listener)
     (g.L.Listener.noted l.fn.listener)
     (g.L.Listener.noted l.listener)

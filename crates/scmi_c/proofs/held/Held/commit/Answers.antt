@@ -1,9 +1,10 @@
 use Rattle.std.proofs.Common.{rules, [], ◌∷◌, ◌++◌, Some, subst, ap, ◌∙◌}
 use Rattle.scmi_core.specs.Asked.{Made}
 use Rattle.scmi_plan.specs.declared.effect.Effect.{Effect}
-use Rattle.scmi_c.specs.Standing.{Held, StandsAt, board_of}
+use Rattle.scmi_c.specs.Standing.{Held, StandsAt, board_of, HasHistory}
 use Rattle.scmi_c.proofs.Driving.{drives_made}
 use Rattle.scmi_c.proofs.RateChanges.{clock-known}
+use Rattle.scmi_c.proofs.Askable.{still-made}
 use Rattle.scmi_c.proofs.held.Held.commit.Goals as goal
 
 pub returns-clause-driven : goal.returns-clause-driven
@@ -17,3 +18,6 @@ returns-clause-clock c = λ clock rate is.
     let at : StandsAt c.args.self.now had.0 = subst (λ (p : Held). StandsAt p had.0) c.self.view_is had.1 in
     clock-known (board_of c.args.self.now) c.args.agent had.0 c.args.frame.now clock rate
     (c.requires.effect had.0 at ∙ ap (λ (e : Effect). Some e) is)
+
+pub returns-clause-askable : goal.returns-clause-askable
+returns-clause-askable c = still-made c.args.self.now _ c.args.agent c.args.frame.now c.args.effect (subst HasHistory c.self.view_is c.self.invariant) (search rules) c.requires.effect

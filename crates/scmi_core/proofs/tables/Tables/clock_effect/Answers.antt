@@ -2,7 +2,7 @@ use Rattle.std.proofs.Common.{None, Ok, sym, ap, ◌∙◌}
 use Rattle.scmi_codec.specs.Payload.{if_success}
 use Rattle.scmi_codec.specs.declared.command.Command.TheVariants.{Clock}
 use Rattle.scmi_clock.specs.ClockTable.{rate_now, enabled_now}
-use Rattle.scmi_core.specs.Effect.{clock_effect}
+use Rattle.scmi_clock.specs.ClockProtocol.{clock_effect}
 use Rattle.scmi_core.specs.Reply.{reply_words}
 use Rattle.scmi_core.specs.Tables.{situation_in}
 use Rattle.scmi_core.proofs.Situations.{clock-reply}

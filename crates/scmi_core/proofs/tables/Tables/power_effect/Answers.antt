@@ -1,7 +1,7 @@
 use Rattle.std.proofs.Common.{option_map, sym, ap, ◌∙◌}
 use Rattle.scmi_codec.specs.Payload.{if_success}
 use Rattle.scmi_power.specs.PowerTable.{set_now}
-use Rattle.scmi_core.specs.Effect.{state_effect}
+use Rattle.scmi_power.specs.PowerProtocol.{state_effect}
 use Rattle.scmi_core.proofs.Situations.{power-reply}
 use Rattle.scmi_core.proofs.tables.Tables.power_effect.Goals as goal
 

@@ -1,0 +1,234 @@
+-- The clock protocol keeps the laws of a protocol.
+use Rattle.std.proofs.Common.{◌≡◌, ◌⊎◌, inl, inr, ℕ, suc, ◌+◌, ◌-◌, ◌*◌, ◌/◌, ◌≤◌, ◌==◌, ◌&&◌, Bool, true, false, not, List, [], ◌∷◌, length, take, drop, Option, Some, None, option_map, unwrap_or, refl, ap, subst, arith, if◌then◌else◌}
+use Rattle.std.specs.Prelude.{min}
+use Rattle.std.specs.List.{flat_map}
+use Rattle.std.specs.Option.{option_or}
+use Rattle.std.proofs.Math.Nat.{min-le_left, mul-div-le}
+use Rattle.std.proofs.lemmas.List.{length-take}
+use Rattle.scmi_codec.specs.Name.{name_words}
+use Rattle.scmi_codec.specs.Payload.{begins_with_success}
+use Rattle.scmi_codec.specs.Rate.{rate_words}
+use Rattle.scmi_codec.specs.Reply.{bit_0, reply_unless}
+use Rattle.scmi_codec.specs.declared.clock_command.ClockCommand.{ClockCommand}
+use Rattle.scmi_codec.specs.declared.clock_command.ClockCommand.TheVariants as clock
+use Rattle.scmi_codec.specs.declared.status.Status.TheVariants.{NotFound, InvalidParameters, NotSupported, OutOfRange, Denied, Busy}
+use Rattle.scmi_plan.specs.Board.{Board, IsChannel, clock_at, is_absent, is_kept}
+use Rattle.scmi_plan.specs.Rates.{SupportedRates}
+use Rattle.scmi_plan.specs.Rates as rates
+use Rattle.scmi_plan.specs.declared.agent_channel.AgentChannel.{AgentChannel}
+use Rattle.scmi_plan.specs.declared.effect.Effect.{Effect}
+use Rattle.scmi_plan.specs.declared.effect.Effect.TheVariants as effect
+use Rattle.scmi_plan.specs.declared.resource.Resource.TheVariants as resource
+use Rattle.scmi_base.specs.Protocol.{HasResource, IsProtocol, Succeeds, change_wanted, resource_changed}
+use Rattle.scmi_base.proofs.CheckedReplies.{by_checks, checked, found, may_alone, not_forbidden, passed, room_of, set-allowed}
+use Rattle.scmi_clock.specs.ClockProtocol.{clock_effect, clock_protocol, later_effect, may_in, switches_off}
+use Rattle.scmi_clock.specs.ClockReply.{ClockView, clock_reply, config_checks, disables_kept, most_rates, no_clock, past_end, rates_words, set_checks}
+use Rattle.scmi_clock.specs.ClockTable.{enabled_now, rate_later, rate_now, set_rate}
+use Rattle.scmi_clock.specs.SetFlags.{is_asynchronous, is_response_wanted}
+
+-- two words a rate
+length-rates : (xs : List ℕ) → length (flat_map rate_words xs) ≡ 2 * length xs
+length-rates [] = refl
+length-rates (x ∷ xs) = let rest = length-rates xs in omega (arith, rest)
+
+-- this many rates have room after the status and the flags word
+most-within : (words : ℕ) → 8 ≤ words → 2 + 2 * ((words - 2) / 2) ≤ words
+most-within words eight = let pairs = mul-div-le (words - 2) 2 in omega (arith, eight, pairs)
+
+rates-within : (channel : AgentChannel) → IsChannel channel → (r : SupportedRates) (index : ℕ) → 1 + length (rates_words channel r index) ≤ channel.words
+rates-within channel law (rates.list list) index =
+    let count = min (most_rates channel) (length list - index) in
+    let pairs : length (flat_map rate_words (take count (drop index list))) ≡ 2 * length (take count (drop index list)) = length-rates (take count (drop index list)) in
+    let taken : length (take count (drop index list)) ≡ min count (length (drop index list)) = length-take count (drop index list) in
+    let few : min count (length (drop index list)) ≤ count = min-le_left count (length (drop index list)) in
+    let most : count ≤ most_rates channel = min-le_left (most_rates channel) (length list - index) in
+    let room : 2 + 2 * most_rates channel ≤ channel.words = most-within channel.words law.0 in
+    short (length (flat_map rate_words (take count (drop index list)))) (length (take count (drop index list))) (min count (length (drop index list))) count (most_rates channel) channel.words pairs taken few most room
+  where
+    short : (rates taken least count most words : ℕ) → rates ≡ 2 * taken → taken ≡ least → least ≤ count → count ≤ most → 2 + 2 * most ≤ words → 1 + suc rates ≤ words
+    short rates taken least count most words pairs is few upto room = omega (arith, pairs, is, few, upto, room)
+rates-within channel law (rates.steps low high step) index = law.0
+
+within : (board : Board) (v : ClockView) (c : ClockCommand) → IsChannel v.channel → length (clock_reply board v c) ≤ v.channel.words
+unfolding clock_reply
+within board v clock.Version law = let eight = law.0 in omega (arith, eight)
+within board v clock.Attributes law = let eight = law.0 in omega (arith, eight)
+within board v (clock.MessageAttributes message) law =
+    let eight = law.0 in checked v.channel.words (omega (arith, eight)) _ _ (0 ∷ 0 ∷ []) (omega (arith, eight))
+within board v (clock.ClockAttributes c) law =
+    let eight = law.0 in
+    checked v.channel.words (omega (arith, eight)) _ _ (0 ∷ (if v.enabled c then 1 else 0) ∷ name_words (clock_at board c).name) (omega (arith, eight))
+within board v (clock.Describe c index) law =
+    let eight = law.0 in
+    let few = rates-within v.channel law (clock_at board c).rates index in
+    by_checks v.channel.words (omega (arith, eight)) ((no_clock board c, NotFound) ∷ (past_end (clock_at board c).rates index, OutOfRange) ∷ [])
+    (0 ∷ rates_words v.channel (clock_at board c).rates index) (omega (arith, few))
+within board v (clock.SetRate flags c rate) law =
+    let eight = law.0 in
+    by_checks v.channel.words (omega (arith, eight)) (set_checks board v.channel (v.may c) (v.busy c) v.room flags c rate) (0 ∷ []) (omega (arith, eight))
+within board v (clock.GetRate c) law = let eight = law.0 in checked v.channel.words (omega (arith, eight)) _ _ (0 ∷ rate_words (v.rate c)) (omega (arith, eight))
+within board v (clock.Config c attributes) law =
+    let eight = law.0 in
+    by_checks v.channel.words (omega (arith, eight)) (config_checks board (v.may c && not (disables_kept board c attributes)) c attributes) (0 ∷ []) (omega (arith, eight))
+
+-- a command gives a rate, or it enables or disables a clock, or it changes nothing
+for_changes : (board : Board) (P : ClockCommand → Type 0) → ((flags c rate : ℕ) → P (clock.SetRate flags c rate)) → ((c attributes : ℕ) → P (clock.Config c attributes))
+    → ((c : ClockCommand) → rate_now board c ≡ None → enabled_now c ≡ None → rate_later board c ≡ None → P c) → (c : ClockCommand) → P c
+for_changes board P rate config none clock.Version = none clock.Version refl refl refl
+for_changes board P rate config none clock.Attributes = none clock.Attributes refl refl refl
+for_changes board P rate config none (clock.MessageAttributes message) = none (clock.MessageAttributes message) refl refl refl
+for_changes board P rate config none (clock.ClockAttributes c) = none (clock.ClockAttributes c) refl refl refl
+for_changes board P rate config none (clock.Describe c index) = none (clock.Describe c index) refl refl refl
+for_changes board P rate config none (clock.GetRate c) = none (clock.GetRate c) refl refl refl
+for_changes board P rate config none (clock.SetRate flags c given) = rate flags c given
+for_changes board P rate config none (clock.Config c attributes) = config c attributes
+
+-- a rate is set, or a clock is enabled or disabled, not both
+pub never_both : (board : Board) (c : ClockCommand) → (rate_now board c ≡ None) ⊎ (enabled_now c ≡ None)
+never_both board c =
+    for_changes board (λ c. (rate_now board c ≡ None) ⊎ (enabled_now c ≡ None)) (λ flags c rate. inr refl) (λ c attributes. inl refl) (λ c now enabled later. inl now) c
+
+none_wanted : (rate : Option (ℕ × ℕ)) (enabled : Option (ℕ × Bool)) (later : Option (ℕ × ℕ × Bool)) (e : Effect) → rate ≡ None → enabled ≡ None → later ≡ None
+    → option_or (clock_effect rate enabled) (option_map later_effect later) ≡ Some e → {A : Type 0} → A
+none_wanted None None None e r n l is = absurd (cc)
+none_wanted (Some x) enabled later e r n l is = absurd (cc)
+none_wanted None (Some x) later e r n l is = absurd (cc)
+none_wanted None None (Some x) e r n l is = absurd (cc)
+
+none_now : (rate : Option (ℕ × ℕ)) (enabled : Option (ℕ × Bool)) (e : Effect) → rate ≡ None → enabled ≡ None → clock_effect rate enabled ≡ Some e → {A : Type 0} → A
+none_now rate enabled e r n is = none_wanted rate enabled None e r n refl (more (clock_effect rate enabled) is) where
+  more : (o : Option Effect) → o ≡ Some e → option_or o None ≡ Some e
+  more None same = same
+  more (Some x) same = same
+
+none_later : (o : Option (ℕ × ℕ × Bool)) (e : Effect) → o ≡ None → option_map later_effect o ≡ Some e → {A : Type 0} → A
+none_later None e n is = absurd (cc)
+none_later (Some x) e n is = absurd (cc)
+
+-- the change of a set of a rate
+wanted_is : (b wanted : Bool) (c rate : ℕ) (e : Effect)
+    → option_or (clock_effect (if b then None else Some (c, rate)) None) (option_map later_effect (if b then Some (c, rate, wanted) else None)) ≡ Some e
+    → effect.Rate c rate ≡ e
+wanted_is true wanted c rate e is = ap (λ o. unwrap_or o e) is
+wanted_is false wanted c rate e is = ap (λ o. unwrap_or o e) is
+
+now_is : (b : Bool) (c rate : ℕ) (e : Effect) → clock_effect (if b then None else Some (c, rate)) None ≡ Some e → effect.Rate c rate ≡ e
+now_is true c rate e is = absurd (cc)
+now_is false c rate e is = ap (λ o. unwrap_or o e) is
+
+later_is : (b : Bool) (set : ℕ × ℕ × Bool) (e : Effect) → option_map later_effect (if b then Some set else None) ≡ Some e → b ≡ true
+later_is true set e is = refl
+later_is false set e is = absurd (cc)
+
+once_set : (b : Bool) (set : ℕ × ℕ × Bool) (now : ℕ × ℕ) (e : Effect) → option_map later_effect (if b then Some set else None) ≡ Some e
+    → clock_effect (if b then None else Some now) None ≡ None
+once_set true set now e is = refl
+once_set false set now e is = absurd (cc)
+
+-- the change of a configuration
+config_is : (c : ℕ) (enabled : Bool) (e : Effect) → Some (effect.Enabled c enabled) ≡ Some e → effect.Enabled c enabled ≡ e
+config_is c enabled e is = ap (λ o. unwrap_or o e) is
+
+-- a configuration that succeeded passed the check of its permission
+config-allowed : (c1 c2 may : Bool) → begins_with_success (reply_unless ((c1, NotFound) ∷ (c2, InvalidParameters) ∷ (not may, Denied) ∷ []) (0 ∷ [])) ≡ true → may ≡ true
+config-allowed c1 c2 true ok = refl
+config-allowed true c2 false ok = absurd (cc)
+config-allowed false true false ok = absurd (cc)
+config-allowed false false false ok = absurd (cc)
+
+and_false : (b : Bool) → (b && false) ≡ false
+and_false true = refl
+and_false false = refl
+
+-- a set that is accepted for later is of a caller that the platform can send to
+rate-sent : (c1 c2 c4 c5 later one_way : Bool)
+    → begins_with_success (reply_unless ((c1, NotFound) ∷ (c2, InvalidParameters) ∷ (one_way && later, NotSupported) ∷ (c4, Denied) ∷ (c5, Busy) ∷ []) (0 ∷ [])) ≡ true
+    → later ≡ true → one_way ≡ false
+rate-sent c1 c2 c4 c5 later false ok is = refl
+rate-sent true c2 c4 c5 later true ok is = absurd (cc)
+rate-sent false true c4 c5 later true ok is = absurd (cc)
+rate-sent false false c4 c5 true true ok is = absurd (cc)
+rate-sent false false c4 c5 false true ok is = absurd (cc)
+
+module _ (board : Board) where
+  once : (c : ClockCommand) (e : Effect) → option_map later_effect (rate_later board c) ≡ Some e → clock_effect (rate_now board c) (enabled_now c) ≡ None
+  once c e =
+      for_changes board (λ c. option_map later_effect (rate_later board c) ≡ Some e → clock_effect (rate_now board c) (enabled_now c) ≡ None)
+      (λ flags c rate is. once_set (is_asynchronous flags) (c, set_rate board flags c rate, is_response_wanted flags) (c, set_rate board flags c rate) e is)
+      (λ c attributes is. none_later None e refl is) (λ c now enabled later is. none_later (rate_later board c) e later is) c
+
+  alone : (c : ClockCommand) (e : Effect) (a d caller : ℕ) → clock_effect (rate_now board c) (enabled_now c) ≡ Some e → clock_protocol.request a d caller c ≡ None
+  alone c e a d caller is = refl
+
+  module _ (v : ClockView) where
+    allowed : (c : ClockCommand) (e : Effect) → Succeeds clock_protocol board v c → change_wanted clock_protocol board c ≡ Some e
+        → may_in v (resource_changed e) ≡ true
+    unfolding clock_reply
+    allowed c e =
+        for_changes board (λ c. begins_with_success (clock_reply board v c) ≡ true → change_wanted clock_protocol board c ≡ Some e → may_in v (resource_changed e) ≡ true)
+        (λ flags c rate ok is.
+        subst (λ x. may_in v (resource_changed x) ≡ true) (wanted_is (is_asynchronous flags) (is_response_wanted flags) c (set_rate board flags c rate) e is) (set-allowed _ _ _ _ _ ok))
+        (λ c attributes ok is. subst (λ x. may_in v (resource_changed x) ≡ true) (config_is c (bit_0 attributes) e is) (may_alone _ _ (config-allowed _ _ _ ok)))
+        (λ c now enabled later ok is. none_wanted (rate_now board c) (enabled_now c) (rate_later board c) e now enabled later is) c
+
+    kept : (c : ClockCommand) (e : Effect) → Succeeds clock_protocol board v c → change_wanted clock_protocol board c ≡ Some e
+        → (is_kept board (resource_changed e) && switches_off e) ≡ false
+    unfolding clock_reply
+    kept c e =
+        for_changes board (λ c. begins_with_success (clock_reply board v c) ≡ true → change_wanted clock_protocol board c ≡ Some e → (is_kept board (resource_changed e) && switches_off e) ≡ false)
+        (λ flags c rate ok is.
+        subst (λ x. (is_kept board (resource_changed x) && switches_off x) ≡ false) (wanted_is (is_asynchronous flags) (is_response_wanted flags) c (set_rate board flags c rate) e is) (and_false (is_kept board (resource.Clock c))))
+        (λ c attributes ok is. subst (λ x. (is_kept board (resource_changed x) && switches_off x) ≡ false) (config_is c (bit_0 attributes) e is) (not_forbidden _ _ (config-allowed _ _ _ ok)))
+        (λ c now enabled later ok is. none_wanted (rate_now board c) (enabled_now c) (rate_later board c) e now enabled later is) c
+
+    free : (c : ClockCommand) (e : Effect) → Succeeds clock_protocol board v c → option_map later_effect (rate_later board c) ≡ Some e → v.room ≡ true
+    unfolding clock_reply
+    free c e =
+        for_changes board (λ c. begins_with_success (clock_reply board v c) ≡ true → option_map later_effect (rate_later board c) ≡ Some e → v.room ≡ true)
+        (λ flags c rate ok is. room_of _ _ _ _ _ (is_asynchronous flags) v.room ok (later_is (is_asynchronous flags) (c, set_rate board flags c rate, is_response_wanted flags) e is))
+        (λ c attributes ok is. none_later None e refl is) (λ c now enabled later ok is. none_later (rate_later board c) e later is) c
+
+    sent : (c : ClockCommand) (e : Effect) → Succeeds clock_protocol board v c → option_map later_effect (rate_later board c) ≡ Some e → v.channel.one_way ≡ false
+    unfolding clock_reply
+    sent c e =
+        for_changes board (λ c. begins_with_success (clock_reply board v c) ≡ true → option_map later_effect (rate_later board c) ≡ Some e → v.channel.one_way ≡ false)
+        (λ flags c rate ok is. rate-sent _ _ _ _ (is_asynchronous flags) v.channel.one_way ok (later_is (is_asynchronous flags) (c, set_rate board flags c rate, is_response_wanted flags) e is))
+        (λ c attributes ok is. none_later None e refl is) (λ c now enabled later ok is. none_later (rate_later board c) e later is) c
+
+    told : (c : ClockCommand) (a d caller : ℕ) (on : Bool) → Succeeds clock_protocol board v c → clock_protocol.request a d caller c ≡ Some on
+        → ((caller == a) ≡ true) × (v.channel.one_way ≡ false)
+    told c a d caller on ok e = absurd (cc)
+
+    made : (c : ClockCommand) (e : Effect) → Succeeds clock_protocol board v c → clock_effect (rate_now board c) (enabled_now c) ≡ Some e → clock_reply board v c ≡ 0 ∷ []
+    unfolding clock_reply
+    made c e =
+        for_changes board (λ c. begins_with_success (clock_reply board v c) ≡ true → clock_effect (rate_now board c) (enabled_now c) ≡ Some e → clock_reply board v c ≡ 0 ∷ [])
+        (λ flags c rate ok is. passed (set_checks board v.channel (v.may c) (v.busy c) v.room flags c rate) ok)
+        (λ c attributes ok is. passed (config_checks board (v.may c && not (disables_kept board c attributes)) c attributes) ok)
+        (λ c now enabled later ok is. none_now (rate_now board c) (enabled_now c) e now enabled is) c
+
+    known : (c : ClockCommand) (e : Effect) → Succeeds clock_protocol board v c → clock_effect (rate_now board c) (enabled_now c) ≡ Some e → HasResource board (resource_changed e)
+    unfolding clock_reply
+    known c e =
+        for_changes board (λ c. begins_with_success (clock_reply board v c) ≡ true → clock_effect (rate_now board c) (enabled_now c) ≡ Some e → HasResource board (resource_changed e))
+        (λ flags c rate ok is.
+        subst (λ x. HasResource board (resource_changed x)) (now_is (is_asynchronous flags) c (set_rate board flags c rate) e is)
+        (found (length board.clocks) c (is_absent board (resource.Clock c)) (drop 1 (set_checks board v.channel (v.may c) (v.busy c) v.room flags c rate)) ok))
+        (λ c attributes ok is.
+        subst (λ x. HasResource board (resource_changed x)) (config_is c (bit_0 attributes) e is)
+        (found (length board.clocks) c (is_absent board (resource.Clock c)) (drop 1 (config_checks board (v.may c && not (disables_kept board c attributes)) c attributes)) ok))
+        (λ c now enabled later ok is. none_now (rate_now board c) (enabled_now c) e now enabled is) c
+
+pub clock_laws : IsProtocol clock_protocol
+clock_laws = record {
+  within = within;
+  once = once;
+  alone = alone;
+  allowed = allowed;
+  kept = kept;
+  free = free;
+  sent = sent;
+  told = told;
+  made = made;
+  known = known;
+}

@@ -1,0 +1,192 @@
+-- The power domain protocol keeps the laws of a protocol.
+use Rattle.std.proofs.Common.{◌≡◌, ℕ, ◌≤◌, ◌==◌, ◌&&◌, ◌||◌, Bool, true, false, not, List, [], ◌∷◌, length, drop, Option, Some, None, option_map, unwrap_or, refl, ap, subst, arith, if◌then◌else◌}
+use Rattle.std.specs.Option.{option_or}
+use Rattle.scmi_codec.specs.Name.{name_words}
+use Rattle.scmi_codec.specs.Payload.{begins_with_success}
+use Rattle.scmi_codec.specs.Reply.{Check, bit_0, other_bits, reply_unless}
+use Rattle.scmi_codec.specs.declared.power_command.PowerCommand.{PowerCommand}
+use Rattle.scmi_codec.specs.declared.power_command.PowerCommand.TheVariants as power
+use Rattle.scmi_codec.specs.declared.status.Status.TheVariants.{NotFound, InvalidParameters, NotSupported, Denied, Busy}
+use Rattle.scmi_plan.specs.Board.{Board, IsChannel, domain_at, is_absent, is_kept}
+use Rattle.scmi_plan.specs.declared.effect.Effect.{Effect}
+use Rattle.scmi_plan.specs.declared.resource.Resource.TheVariants as resource
+use Rattle.scmi_base.specs.Protocol.{HasResource, IsProtocol, Succeeds, change_wanted, resource_changed}
+use Rattle.scmi_base.proofs.CheckedReplies.{by_checks, checked, found, may_alone, not_forbidden, passed, room_of, set-allowed}
+use Rattle.scmi_power.specs.PowerProtocol.{may_in, power_protocol, state_effect, switches_off}
+use Rattle.scmi_power.specs.PowerReply.{PowerView, attributes, has_kind, has_notifications, is_state, may_set, no_domain, power_reply}
+use Rattle.scmi_power.specs.PowerTable.{notification, set_later, set_now}
+
+-- the checks of a set
+abbrev set_checks : Board → PowerView → (flags d state : ℕ) → List Check
+set_checks board v flags d state =
+    (no_domain board d, NotFound)
+    ∷ (other_bits flags || not (is_state state), InvalidParameters)
+    ∷ (not (has_kind v.channel (domain_at board d) flags), NotSupported)
+    ∷ (not (may_set board (v.may d) d state), Denied)
+    ∷ (v.busy d || (bit_0 flags && not v.room), Busy)
+    ∷ []
+
+within : (board : Board) (v : PowerView) (c : PowerCommand) → IsChannel v.channel → length (power_reply board v c) ≤ v.channel.words
+unfolding power_reply
+within board v power.Version law = let eight = law.0 in omega (arith, eight)
+within board v power.Attributes law = let eight = law.0 in omega (arith, eight)
+within board v (power.MessageAttributes message) law =
+    let eight = law.0 in checked v.channel.words (omega (arith, eight)) _ _ (0 ∷ 0 ∷ []) (omega (arith, eight))
+within board v (power.DomainAttributes d) law =
+    let eight = law.0 in
+    checked v.channel.words (omega (arith, eight)) _ _ (0 ∷ attributes v.channel (domain_at board d) ∷ name_words (domain_at board d).name) (omega (arith, eight))
+within board v (power.Set flags d state) law =
+    let eight = law.0 in by_checks v.channel.words (omega (arith, eight)) (set_checks board v flags d state) (0 ∷ []) (omega (arith, eight))
+within board v (power.Get d) law = let eight = law.0 in checked v.channel.words (omega (arith, eight)) _ _ (0 ∷ v.state d ∷ []) (omega (arith, eight))
+within board v (power.Notify d enable) law =
+    let eight = law.0 in
+    by_checks v.channel.words (omega (arith, eight)) (
+    (no_domain board d, NotFound)
+    ∷ (other_bits enable, InvalidParameters)
+    ∷ (not (has_notifications v.channel (domain_at board d)), NotSupported)
+    ∷ (not (v.may d), Denied)
+    ∷ [])
+    (0 ∷ []) (omega (arith, eight))
+
+-- a command is a set, or it changes nothing
+for_sets : (P : PowerCommand → Type 0) → ((flags d state : ℕ) → P (power.Set flags d state))
+    → ((c : PowerCommand) → set_now c ≡ None → set_later c ≡ None → P c) → (c : PowerCommand) → P c
+for_sets P set none power.Version = none power.Version refl refl
+for_sets P set none power.Attributes = none power.Attributes refl refl
+for_sets P set none (power.MessageAttributes message) = none (power.MessageAttributes message) refl refl
+for_sets P set none (power.DomainAttributes d) = none (power.DomainAttributes d) refl refl
+for_sets P set none (power.Get d) = none (power.Get d) refl refl
+for_sets P set none (power.Notify d enable) = none (power.Notify d enable) refl refl
+for_sets P set none (power.Set flags d state) = set flags d state
+
+none_now : (now later : Option (ℕ × ℕ)) (e : Effect) → now ≡ None → later ≡ None
+    → option_or (option_map state_effect now) (option_map state_effect later) ≡ Some e → {A : Type 0} → A
+none_now None None e n l is = absurd (cc)
+none_now (Some x) later e n l is = absurd (cc)
+none_now None (Some x) e n l is = absurd (cc)
+
+none_of : (o : Option (ℕ × ℕ)) (e : Effect) → o ≡ None → option_map state_effect o ≡ Some e → {A : Type 0} → A
+none_of None e n is = absurd (cc)
+none_of (Some x) e n is = absurd (cc)
+
+-- the change of a set
+wanted_is : (b : Bool) (set : ℕ × ℕ) (e : Effect)
+    → option_or (option_map state_effect (if b then None else Some set)) (option_map state_effect (if b then Some set else None)) ≡ Some e
+    → state_effect set ≡ e
+wanted_is true set e is = ap (λ o. unwrap_or o e) is
+wanted_is false set e is = ap (λ o. unwrap_or o e) is
+
+now_is : (b : Bool) (set : ℕ × ℕ) (e : Effect) → option_map state_effect (if b then None else Some set) ≡ Some e → state_effect set ≡ e
+now_is true set e is = absurd (cc)
+now_is false set e is = ap (λ o. unwrap_or o e) is
+
+later_is : (b : Bool) (set : ℕ × ℕ) (e : Effect) → option_map state_effect (if b then Some set else None) ≡ Some e → b ≡ true
+later_is true set e is = refl
+later_is false set e is = absurd (cc)
+
+once_set : (b : Bool) (set : ℕ × ℕ) (e : Effect) → option_map state_effect (if b then Some set else None) ≡ Some e
+    → option_map state_effect (if b then None else Some set) ≡ None
+once_set true set e is = refl
+once_set false set e is = absurd (cc)
+
+-- a set that is accepted for later is of a caller that the platform can send to
+set-sent : (c1 c2 c4 c5 later one_way asynchronous synchronous : Bool)
+    → begins_with_success (reply_unless ((c1, NotFound) ∷ (c2, InvalidParameters) ∷ (not (if later then not one_way && asynchronous else synchronous), NotSupported) ∷ (c4, Denied) ∷ (c5, Busy) ∷ []) (0 ∷ [])) ≡ true
+    → later ≡ true → one_way ≡ false
+set-sent c1 c2 c4 c5 later false asynchronous synchronous ok is = refl
+set-sent true c2 c4 c5 later true asynchronous synchronous ok is = absurd (cc)
+set-sent false true c4 c5 later true asynchronous synchronous ok is = absurd (cc)
+set-sent false false c4 c5 true true asynchronous synchronous ok is = absurd (cc)
+set-sent false false c4 c5 false true asynchronous synchronous ok is = absurd (cc)
+
+notify-sent : (c1 c2 c4 one_way notify : Bool)
+    → begins_with_success (reply_unless ((c1, NotFound) ∷ (c2, InvalidParameters) ∷ (not (not one_way && notify), NotSupported) ∷ (c4, Denied) ∷ []) (0 ∷ [])) ≡ true → one_way ≡ false
+notify-sent c1 c2 c4 false notify ok = refl
+notify-sent true c2 c4 true notify ok = absurd (cc)
+notify-sent false true c4 true notify ok = absurd (cc)
+notify-sent false false c4 true notify ok = absurd (cc)
+
+module _ (board : Board) where
+  once : (c : PowerCommand) (e : Effect) → option_map state_effect (set_later c) ≡ Some e → option_map state_effect (set_now c) ≡ None
+  once c e =
+      for_sets (λ c. option_map state_effect (set_later c) ≡ Some e → option_map state_effect (set_now c) ≡ None)
+      (λ flags d state is. once_set (bit_0 flags) (d, state) e is) (λ c now later is. none_of (set_later c) e later is) c
+
+  alone : (c : PowerCommand) (e : Effect) (a d caller : ℕ) → option_map state_effect (set_now c) ≡ Some e → notification a d caller c ≡ None
+  alone c e a d caller =
+      for_sets (λ c. option_map state_effect (set_now c) ≡ Some e → notification a d caller c ≡ None)
+      (λ flags d state is. refl) (λ c now later is. none_of (set_now c) e now is) c
+
+  module _ (v : PowerView) where
+    allowed : (c : PowerCommand) (e : Effect) → Succeeds power_protocol board v c → change_wanted power_protocol board c ≡ Some e
+        → may_in v (resource_changed e) ≡ true
+    unfolding power_reply may_set
+    allowed c e =
+        for_sets (λ c. begins_with_success (power_reply board v c) ≡ true → change_wanted power_protocol board c ≡ Some e → may_in v (resource_changed e) ≡ true)
+        (λ flags d state ok is. subst (λ x. may_in v (resource_changed x) ≡ true) (wanted_is (bit_0 flags) (d, state) e is) (may_alone _ _ (set-allowed _ _ _ _ _ ok)))
+        (λ c now later ok is. none_now (set_now c) (set_later c) e now later is) c
+
+    kept : (c : PowerCommand) (e : Effect) → Succeeds power_protocol board v c → change_wanted power_protocol board c ≡ Some e
+        → (is_kept board (resource_changed e) && switches_off e) ≡ false
+    unfolding power_reply may_set
+    kept c e =
+        for_sets (λ c. begins_with_success (power_reply board v c) ≡ true → change_wanted power_protocol board c ≡ Some e → (is_kept board (resource_changed e) && switches_off e) ≡ false)
+        (λ flags d state ok is. subst (λ x. (is_kept board (resource_changed x) && switches_off x) ≡ false) (wanted_is (bit_0 flags) (d, state) e is) (not_forbidden _ _ (set-allowed _ _ _ _ _ ok)))
+        (λ c now later ok is. none_now (set_now c) (set_later c) e now later is) c
+
+    free : (c : PowerCommand) (e : Effect) → Succeeds power_protocol board v c → option_map state_effect (set_later c) ≡ Some e → v.room ≡ true
+    unfolding power_reply
+    free c e =
+        for_sets (λ c. begins_with_success (power_reply board v c) ≡ true → option_map state_effect (set_later c) ≡ Some e → v.room ≡ true)
+        (λ flags d state ok is. room_of _ _ _ _ _ (bit_0 flags) v.room ok (later_is (bit_0 flags) (d, state) e is))
+        (λ c now later ok is. none_of (set_later c) e later is) c
+
+    sent : (c : PowerCommand) (e : Effect) → Succeeds power_protocol board v c → option_map state_effect (set_later c) ≡ Some e → v.channel.one_way ≡ false
+    unfolding power_reply
+    sent c e =
+        for_sets (λ c. begins_with_success (power_reply board v c) ≡ true → option_map state_effect (set_later c) ≡ Some e → v.channel.one_way ≡ false)
+        (λ flags d state ok is. set-sent _ _ _ _ (bit_0 flags) v.channel.one_way _ _ ok (later_is (bit_0 flags) (d, state) e is))
+        (λ c now later ok is. none_of (set_later c) e later is) c
+
+    told : (c : PowerCommand) (a d caller : ℕ) (on : Bool) → Succeeds power_protocol board v c → notification a d caller c ≡ Some on
+        → ((caller == a) ≡ true) × (v.channel.one_way ≡ false)
+    unfolding power_reply
+    told power.Version a d caller on ok e = absurd (cc)
+    told power.Attributes a d caller on ok e = absurd (cc)
+    told (power.MessageAttributes message) a d caller on ok e = absurd (cc)
+    told (power.DomainAttributes domain) a d caller on ok e = absurd (cc)
+    told (power.Get domain) a d caller on ok e = absurd (cc)
+    told (power.Set flags domain state) a d caller on ok e = absurd (cc)
+    told (power.Notify domain enable) a d caller on ok e = (own (caller == a) (domain == d) e, notify-sent _ _ _ v.channel.one_way _ ok) where
+      own : (x y : Bool) → (if x && y then Some (bit_0 enable) else None) ≡ Some on → x ≡ true
+      own true y is = refl
+      own false y is = absurd (cc)
+
+    made : (c : PowerCommand) (e : Effect) → Succeeds power_protocol board v c → option_map state_effect (set_now c) ≡ Some e → power_reply board v c ≡ 0 ∷ []
+    unfolding power_reply
+    made c e =
+        for_sets (λ c. begins_with_success (power_reply board v c) ≡ true → option_map state_effect (set_now c) ≡ Some e → power_reply board v c ≡ 0 ∷ [])
+        (λ flags d state ok is. passed (set_checks board v flags d state) ok) (λ c now later ok is. none_of (set_now c) e now is) c
+
+    known : (c : PowerCommand) (e : Effect) → Succeeds power_protocol board v c → option_map state_effect (set_now c) ≡ Some e → HasResource board (resource_changed e)
+    unfolding power_reply
+    known c e =
+        for_sets (λ c. begins_with_success (power_reply board v c) ≡ true → option_map state_effect (set_now c) ≡ Some e → HasResource board (resource_changed e))
+        (λ flags d state ok is.
+        subst (λ x. HasResource board (resource_changed x)) (now_is (bit_0 flags) (d, state) e is)
+        (found (length board.domains) d (is_absent board (resource.Domain d)) (drop 1 (set_checks board v flags d state)) ok))
+        (λ c now later ok is. none_of (set_now c) e now is) c
+
+pub power_laws : IsProtocol power_protocol
+power_laws = record {
+  within = within;
+  once = once;
+  alone = alone;
+  allowed = allowed;
+  kept = kept;
+  free = free;
+  sent = sent;
+  told = told;
+  made = made;
+  known = known;
+}
