@@ -108,9 +108,9 @@ TEE_Result scmi_server_msg_process_thread(unsigned int channel_id, void *in_buf,
 
 static uint32_t serve_area(unsigned int agent)
 {
-    scmi_mailbox box = find_box(agent);
+    scmi_mailbox box;
 
-    if (box.words == NULL)
+    if (!find_box(agent, &box))
         return TEE_ERROR_BAD_PARAMETERS;
     if (scmi_mailbox_is_free(&box))
         return TEE_ERROR_NO_DATA;
