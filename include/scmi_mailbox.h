@@ -71,24 +71,26 @@ static inline void scmi_shared_store(const scmi_mailbox *box, uint32_t at, uint3
     __atomic_store_n(&box->words[at], word, __ATOMIC_RELAXED);
 }
 
-/* Copies the header word of a channel and what is behind it, each word once: `count` words, 1 or more. */
+/* Copies the header word of a channel and what is behind it, each word once: `count` words. */
 static inline void scmi_shared_read(const scmi_mailbox *box, uint32_t *to, uint32_t count)
 {
-    scmi_shared_word *from = box->words + SCMI_AT_HEADER, *end = from + count;
+    scmi_shared_word *from = box->words + SCMI_AT_HEADER;
 
-    do
-        *to++ = __atomic_load_n(from++, __ATOMIC_RELAXED);
-    while (from != end);
+    for (; count > 0; count--) {
+        *to++ = __atomic_load_n(from, __ATOMIC_RELAXED);
+        from++;
+    }
 }
 
 /* The same in the other direction. */
 static inline void scmi_shared_write(const scmi_mailbox *box, const uint32_t *from, uint32_t count)
 {
-    scmi_shared_word *to = box->words + SCMI_AT_HEADER, *end = to + count;
+    scmi_shared_word *to = box->words + SCMI_AT_HEADER;
 
-    do
-        __atomic_store_n(to++, *from++, __ATOMIC_RELAXED);
-    while (to != end);
+    for (; count > 0; count--) {
+        __atomic_store_n(to, *from++, __ATOMIC_RELAXED);
+        to++;
+    }
 }
 
 /* Later reads see what the other side wrote before it handed over. */
