@@ -58,6 +58,13 @@ CASSERT(SCMI_PORT_STACK % 16 == 0, scmi_port_stack_is_aligned);
 /* Of scmi_on_stack.S: calls on the stack that ends below `top`, and gives what the call gave. */
 uint32_t scmi_service_on_stack(uintptr_t top, uint32_t (*call)(unsigned int), unsigned int agent);
 
+/*
+ * BL31 is compiled for size, so even what is small is called. What each message goes through is in one piece instead: all
+ * that it calls of this file and of scmi_mailbox.h is in it, but for what is marked as apart.
+ */
+#define IN_ONE_PIECE __attribute__((flatten))
+#define APART __attribute__((noinline))
+
 /* With the lock, and on the stack. */
 static uint32_t enter(uint32_t (*call)(unsigned int), unsigned int agent)
 {
@@ -88,11 +95,8 @@ static struct service *service_of(unsigned int agent)
     return &services[SCMI_PORT_SHARED ? 0 : agent];
 }
 
-/* What each message goes through is not called: BL31 is compiled for size. */
-#define IN_EACH_MESSAGE static inline __attribute__((always_inline))
-
 /* A mailbox over a channel. False if it is none. */
-IN_EACH_MESSAGE bool is_over(const struct scmi_msg_channel *channel, scmi_mailbox *box)
+static bool is_over(const struct scmi_msg_channel *channel, scmi_mailbox *box)
 {
     return channel != NULL && scmi_mailbox_over(box, (void *)channel->shm_addr, channel->shm_size) == SCMI_DONE;
 }
@@ -107,7 +111,7 @@ static void set_in_error(const struct scmi_msg_channel *channel)
 }
 
 /* The mailbox over an agent's channel. False if the agent has none, or one that is no channel, which is then in error. */
-IN_EACH_MESSAGE bool find_box(unsigned int agent, scmi_mailbox *box)
+static bool find_box(unsigned int agent, scmi_mailbox *box)
 {
     const struct scmi_msg_channel *channel = agent < SCMI_PORT_AGENTS ? plat_scmi_get_channel(agent) : NULL;
 
@@ -151,7 +155,7 @@ static bool all_channels_fit(unsigned int agent)
 }
 
 /* Once: whether there is a platform is then in its handle. */
-static uint32_t make(unsigned int agent)
+static APART uint32_t make(unsigned int agent)
 {
     struct service *service = service_of(agent);
     scmi_platform *platform = &service->platform;
@@ -225,7 +229,7 @@ static void execute(unsigned int agent)
 }
 
 /* Whether a message was answered whose agent wants an interrupt. */
-static uint32_t serve(unsigned int agent)
+static IN_ONE_PIECE uint32_t serve(unsigned int agent)
 {
     scmi_mailbox box;
     uint32_t flags;
@@ -329,19 +333,19 @@ bool scmi_service_bring_up(unsigned int agent_id, scmi_platform *platform)
     return made;
 }
 
-bool scmi_service_serve(unsigned int agent_id)
+IN_ONE_PIECE bool scmi_service_serve(unsigned int agent_id)
 {
     return enter(serve, agent_id) != 0;
 }
 
 void scmi_smt_fastcall_smc_entry(unsigned int agent_id)
 {
-    enter(serve, agent_id);
+    scmi_service_serve(agent_id);
 }
 
 void scmi_smt_interrupt_entry(unsigned int agent_id)
 {
-    enter(serve, agent_id);
+    scmi_service_serve(agent_id);
 }
 
 bool scmi_service_make(unsigned int agent_id)
