@@ -13,26 +13,10 @@ static bool is_on(unsigned int domain)
     return gpio_get_value((int)(FIRST_SWITCH + domain)) == GPIO_LEVEL_HIGH;
 }
 
-/* A line that does not follow is put back. */
-static bool set_switch(unsigned int domain, bool on)
+void hardware_start(void)
 {
-    int line = (int)(FIRST_SWITCH + domain);
-
-    gpio_set_direction(line, GPIO_DIR_OUT);
-    gpio_set_value(line, on ? GPIO_LEVEL_HIGH : GPIO_LEVEL_LOW);
-    if (is_on(domain) == on)
-        return true;
-    gpio_set_value(line, on ? GPIO_LEVEL_LOW : GPIO_LEVEL_HIGH);
-    return false;
-}
-
-static unsigned int load(const hardware_state *state)
-{
-    unsigned int loads = state->clocks[CPU].rate > FAST ? 2 : 0;
-
     for (unsigned int domain = 0; domain < DOMAINS; domain++)
-        loads += state->domains[domain];
-    return loads;
+        gpio_set_direction((int)(FIRST_SWITCH + domain), GPIO_DIR_OUT);
 }
 
 void hardware_read(hardware_state *state)
@@ -43,20 +27,52 @@ void hardware_read(hardware_state *state)
         state->clocks[i] = clocks[i];
 }
 
-/* The state after a change of it; false where there is no such switch. */
-static bool change(hardware_state *state, const scmi_effect *effect)
+/* Whether the supply carries so many loads more. Only a change that adds some has to ask. */
+static bool carries(unsigned int more)
 {
-    uint64_t rate = (uint64_t)effect->high << 32 | effect->low;
+    unsigned int loads = clocks[CPU].rate > FAST ? 2 : 0;
 
+    for (unsigned int domain = 0; domain < DOMAINS; domain++)
+        loads += is_on(domain);
+    return loads + more <= SUPPLY;
+}
+
+/* A line that does not follow is put back. */
+static bool set_switch(unsigned int domain, bool on)
+{
+    int line = (int)(FIRST_SWITCH + domain);
+
+    if (on && !is_on(domain) && !carries(1))
+        return false;
+    gpio_set_value(line, on ? GPIO_LEVEL_HIGH : GPIO_LEVEL_LOW);
+    if (is_on(domain) == on)
+        return true;
+    gpio_set_value(line, on ? GPIO_LEVEL_LOW : GPIO_LEVEL_HIGH);
+    return false;
+}
+
+static bool set_rate(unsigned int clock, uint64_t rate)
+{
+    if (clock == CPU && rate > FAST && clocks[CPU].rate <= FAST && !carries(2))
+        return false;
+    clocks[clock].rate = rate;
+    return true;
+}
+
+/* False where there is no such switch, too. */
+static bool make(const scmi_effect *effect)
+{
     if (effect->id >= (effect->kind == SCMI_EFFECT_STATE ? DOMAINS : CLOCKS))
         return false;
-    if (effect->kind == SCMI_EFFECT_STATE)
-        state->domains[effect->id] = effect->low == ON;
-    else if (effect->kind == SCMI_EFFECT_RATE)
-        state->clocks[effect->id].rate = rate;
-    else
-        state->clocks[effect->id].is_open = effect->low != 0;
-    return true;
+    switch (effect->kind) {
+    case SCMI_EFFECT_STATE:
+        return set_switch(effect->id, effect->low == ON);
+    case SCMI_EFFECT_RATE:
+        return set_rate(effect->id, (uint64_t)effect->high << 32 | effect->low);
+    default:
+        clocks[effect->id].is_open = effect->low != 0;
+        return true;
+    }
 }
 
 static void say(void)
@@ -70,19 +86,6 @@ static void say(void)
     for (unsigned int i = 0; i < CLOCKS; i++)
         printf(" %llu %s", (unsigned long long)state.clocks[i].rate, state.clocks[i].is_open ? "open" : "closed");
     printf("\n");
-}
-
-static bool make(const scmi_effect *effect)
-{
-    hardware_state state;
-
-    hardware_read(&state);
-    if (!change(&state, effect) || load(&state) > SUPPLY)
-        return false;
-    if (effect->kind == SCMI_EFFECT_STATE)
-        return set_switch(effect->id, state.domains[effect->id]);
-    clocks[effect->id] = state.clocks[effect->id];
-    return true;
 }
 
 bool hardware_make(const scmi_effect *effect)

@@ -21,6 +21,9 @@ typedef struct hardware_state {
     clock_state clocks[CLOCKS];
 } hardware_state;
 
+/* Before the first change: the lines of the switches are outputs. */
+void hardware_start(void);
+
 /* Makes a change, and says whether it was made; a change that was not leaves the hardware as it was. */
 bool hardware_make(const scmi_effect *effect);
 

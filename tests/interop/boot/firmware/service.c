@@ -12,6 +12,7 @@
 #include <platform_def.h>
 
 #include "agents.h"
+#include "hardware.h"
 #include "measured/measure.h"
 #include "scmi_service.h"
 
@@ -20,6 +21,7 @@ static int32_t setup(void)
     if (mmap_add_dynamic_region(SCMI_SHARED_BASE, SCMI_SHARED_BASE, SCMI_SHARED_BYTES,
                                 MT_NON_CACHEABLE | MT_RW | MT_NS | MT_EXECUTE_NEVER) != 0)
         return -1;
+    hardware_start();
     for (unsigned int agent = 0; agent < AGENTS; agent++)
         scmi_smt_init_agent_channel(plat_scmi_get_channel(agent));
     if (!scmi_service_make(LINUX))
