@@ -37,7 +37,7 @@ CASSERT(CFG_STACK_THREAD_EXTRA >= STACK_EXTRA, scmi_port_wants_CFG_STACK_THREAD_
 #pragma weak plat_scmi_get_channel
 
 /* Of a platform whose agents all send their messages as words. */
-struct scmi_msg_channel *plat_scmi_get_channel(unsigned int channel_id __unused)
+APART struct scmi_msg_channel *plat_scmi_get_channel(unsigned int channel_id __unused)
 {
     return NULL;
 }

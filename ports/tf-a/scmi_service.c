@@ -59,8 +59,9 @@ CASSERT(SCMI_PORT_STACK % 16 == 0, scmi_port_stack_is_aligned);
 uint32_t scmi_service_on_stack(uintptr_t top, uint32_t (*call)(unsigned int), unsigned int agent);
 
 /*
- * BL31 is compiled for size, so even what is small is called. What each message goes through is in one piece instead: all
- * that it calls of this file and of scmi_mailbox.h is in it, but for what is marked as apart.
+ * BL31 is compiled for size, so even what is small is called. What each message goes through is in one piece instead:
+ * all that it calls of this file and of scmi_mailbox.h is in it, but for what is apart. That is what is rare, and what
+ * a board may have of its own: a compiler may put this file's in otherwise, and the board's is never called.
  */
 #define IN_ONE_PIECE __attribute__((flatten))
 #define APART __attribute__((noinline))
@@ -364,21 +365,21 @@ void scmi_service_restart(unsigned int agent_id)
 }
 
 /* Of hardware that changes nothing by itself. */
-void scmi_service_look(unsigned int agent_id __unused, scmi_platform *platform __unused, uint32_t header __unused,
-                       uint32_t id __unused)
+APART void scmi_service_look(unsigned int agent_id __unused, scmi_platform *platform __unused,
+                             uint32_t header __unused, uint32_t id __unused)
 {
 }
 
 /* Of a platform without protocols of its own. */
-uint32_t scmi_service_other(unsigned int agent_id __unused, uint32_t *message __unused, uint32_t count __unused,
-                            uint32_t *words)
+APART uint32_t scmi_service_other(unsigned int agent_id __unused, uint32_t *message __unused,
+                                  uint32_t count __unused, uint32_t *words)
 {
     words[0] = (uint32_t)SCMI_NOT_SUPPORTED;
     return 1;
 }
 
 /* Of a platform without channels back. */
-const struct scmi_msg_channel *scmi_service_outbox(unsigned int agent_id __unused)
+APART const struct scmi_msg_channel *scmi_service_outbox(unsigned int agent_id __unused)
 {
     return NULL;
 }
