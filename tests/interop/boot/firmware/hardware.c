@@ -8,7 +8,7 @@ enum { FIRST_SWITCH = 4, SUPPLY = 4, CPU = 0, ON = 0, FAST = 1000000000 };
 
 static clock_state clocks[CLOCKS];
 
-static bool is_on(unsigned int domain)
+bool hardware_is_on(unsigned int domain)
 {
     return gpio_get_value((int)(FIRST_SWITCH + domain)) == GPIO_LEVEL_HIGH;
 }
@@ -19,10 +19,15 @@ void hardware_start(void)
         gpio_set_direction((int)(FIRST_SWITCH + domain), GPIO_DIR_OUT);
 }
 
+const clock_state *hardware_clock(unsigned int clock)
+{
+    return &clocks[clock];
+}
+
 void hardware_read(hardware_state *state)
 {
     for (unsigned int domain = 0; domain < DOMAINS; domain++)
-        state->domains[domain] = is_on(domain);
+        state->domains[domain] = hardware_is_on(domain);
     for (unsigned int i = 0; i < CLOCKS; i++)
         state->clocks[i] = clocks[i];
 }
@@ -33,7 +38,7 @@ static bool carries(unsigned int more)
     unsigned int loads = clocks[CPU].rate > FAST ? 2 : 0;
 
     for (unsigned int domain = 0; domain < DOMAINS; domain++)
-        loads += is_on(domain);
+        loads += hardware_is_on(domain);
     return loads + more <= SUPPLY;
 }
 
@@ -42,10 +47,10 @@ static bool set_switch(unsigned int domain, bool on)
 {
     int line = (int)(FIRST_SWITCH + domain);
 
-    if (on && !is_on(domain) && !carries(1))
+    if (on && !hardware_is_on(domain) && !carries(1))
         return false;
     gpio_set_value(line, on ? GPIO_LEVEL_HIGH : GPIO_LEVEL_LOW);
-    if (is_on(domain) == on)
+    if (hardware_is_on(domain) == on)
         return true;
     gpio_set_value(line, on ? GPIO_LEVEL_LOW : GPIO_LEVEL_HIGH);
     return false;

@@ -27,6 +27,12 @@ void hardware_start(void);
 /* Makes a change, and says whether it was made; a change that was not leaves the hardware as it was. */
 bool hardware_make(const scmi_effect *effect);
 
-/* Reads the switches back. */
+/* Reads a switch back. */
+bool hardware_is_on(unsigned int domain);
+
+/* A clock as it is. */
+const clock_state *hardware_clock(unsigned int clock);
+
+/* Reads all of it back. */
 void hardware_read(hardware_state *state);
 #endif

@@ -85,10 +85,7 @@ unsigned int plat_scmi_pd_get_attributes(unsigned int agent_id, unsigned int pd_
 
 unsigned int plat_scmi_pd_get_state(unsigned int agent_id, unsigned int pd_id)
 {
-    hardware_state state;
-
-    hardware_read(&state);
-    return state.domains[pd_id] ? STATE_ON : STATE_OFF;
+    return hardware_is_on(pd_id) ? STATE_ON : STATE_OFF;
 }
 
 static int32_t set(uint32_t kind, uint32_t id, uint64_t value)
@@ -136,10 +133,7 @@ int32_t plat_scmi_clock_rates_by_step(unsigned int agent_id, unsigned int scmi_i
 
 unsigned long plat_scmi_clock_get_rate(unsigned int agent_id, unsigned int scmi_id)
 {
-    hardware_state state;
-
-    hardware_read(&state);
-    return state.clocks[scmi_id].rate;
+    return hardware_clock(scmi_id)->rate;
 }
 
 /* Down to a rate of the clock: the server hands no flags over that could ask for another way. */
@@ -163,10 +157,7 @@ int32_t plat_scmi_clock_set_rate(unsigned int agent_id, unsigned int scmi_id, un
 
 int32_t plat_scmi_clock_get_state(unsigned int agent_id, unsigned int scmi_id)
 {
-    hardware_state state;
-
-    hardware_read(&state);
-    return state.clocks[scmi_id].is_open;
+    return hardware_clock(scmi_id)->is_open;
 }
 
 int32_t plat_scmi_clock_set_state(unsigned int agent_id, unsigned int scmi_id, bool enable)
