@@ -59,6 +59,22 @@ not_forbidden true false e = refl
 not_forbidden true true e = absurd (cc)
 not_forbidden false forbidden e = absurd (cc)
 
+-- a set that succeeded found none pending
+pub free_of : (c1 c2 c3 c4 busy short : Bool)
+    → begins_with_success (reply_unless ((c1, NotFound) ∷ (c2, InvalidParameters) ∷ (c3, NotSupported) ∷ (c4, Denied) ∷ (busy || short, Busy) ∷ []) (0 ∷ [])) ≡ true
+    → busy ≡ false
+free_of true c2 c3 c4 busy short ok = absurd (cc)
+free_of false true c3 c4 busy short ok = absurd (cc)
+free_of false false true c4 busy short ok = absurd (cc)
+free_of false false false true busy short ok = absurd (cc)
+free_of false false false false true short ok = absurd (cc)
+free_of false false false false false short ok = refl
+
+-- a set at once asks for no room
+pub no_room : (later room : Bool) → later ≡ false → (later && not room) ≡ false
+no_room true room off = absurd (let it : true ≡ false = off in cc)
+no_room false room off = refl
+
 -- a set that is accepted for later met room
 pub room_of : (c1 c2 c3 c4 busy later room : Bool)
     → begins_with_success (reply_unless ((c1, NotFound) ∷ (c2, InvalidParameters) ∷ (c3, NotSupported) ∷ (c4, Denied) ∷ (busy || (later && not room), Busy) ∷ []) (0 ∷ [])) ≡ true

@@ -24,6 +24,8 @@ HasResource board (resource.Clock c) = c < length board.clocks
 pub record Protocol (V C : Type 0) : Type 0 where
   -- whether the caller may change a domain or clock
   pub may : V → Resource → Bool
+  -- whether a set of a domain or clock is pending
+  pub busy : V → Resource → Bool
   -- whether another set for later has room
   pub room : V → Bool
   -- what the caller's channels are
@@ -34,6 +36,8 @@ pub record Protocol (V C : Type 0) : Type 0 where
   pub now : Board → C → Option Effect
   -- the change that it accepts for later
   pub later : Board → C → Option Effect
+  -- whether a command only reads
+  pub only_reads : C → Bool
   -- what it says about the notifications of agent a about domain d
   pub request : (a d caller : ℕ) → C → Option Bool
   -- whether a change switches off what it changes
@@ -78,3 +82,16 @@ pub record IsProtocol {V C : Type 0} (p : Protocol V C) : Type 0 where
   -- and is of what the board has
   pub known : (board : Board) (v : V) (c : C) (e : Effect) → Succeeds p board v c
       → p.now board c ≡ Some e → HasResource board (resource_changed e)
+  -- its answer stays while its caller may make it and no set of the same thing becomes pending
+  pub still : (board : Board) (v w : V) (c : C) (e : Effect) → Succeeds p board v c
+      → p.now board c ≡ Some e → p.channel v ≡ p.channel w
+      → p.may v (resource_changed e) ≡ p.may w (resource_changed e)
+      → (p.busy v (resource_changed e) ≡ false → p.busy w (resource_changed e) ≡ false)
+      → p.reply board v c ≡ p.reply board w c
+  -- a command that only reads makes no change, and asks for no notifications
+  pub quiet : (board : Board) (c : C) → p.only_reads c ≡ true
+      → (p.now board c ≡ None) × (p.later board c ≡ None)
+      × ((a d caller : ℕ) → p.request a d caller c ≡ None)
+  -- and any other does one of these
+  pub acts : (board : Board) (c : C) (a : ℕ) → p.now board c ≡ None → p.later board c ≡ None
+      → ((d : ℕ) → p.request a d a c ≡ None) → p.only_reads c ≡ true

@@ -8,6 +8,7 @@ use Rattle.scmi_plan.specs.Agent.{IsAgent}
 use Rattle.scmi_plan.specs.Board.{Board, channel_of}
 use Rattle.scmi_plan.specs.Plan.{IsValid}
 use Rattle.scmi_plan.specs.declared.effect.Effect.{Effect}
+use Rattle.scmi_base.specs.Protocol.{resource_changed}
 use Rattle.scmi_core.specs.Effect.{effect_after}
 use Rattle.scmi_core.specs.History.{deed_after, deeds}
 use Rattle.scmi_core.specs.declared.event.Event.{Event}
@@ -20,11 +21,11 @@ use Rattle.scmi_c.specs.Effect.{numbers_of}
 use Rattle.scmi_c.specs.Kept.{Asked, IsAskable}
 use Rattle.scmi_core.specs.Standing.{Standing, StandsAfter}
 use Rattle.scmi_c.specs.Standing.{Held, HasHistory, IsCount, StandsAt, board_of}
-use Rattle.scmi_c.proofs.Undisturbed.{IsQuiet, effect-still, quiet-advance, quiet-advance_failed, quiet-effect, quiet-failed, quiet-malformed, quiet-plain, quiet-reported, quiet-sent, resource_of, short}
+use Rattle.scmi_c.proofs.Undisturbed.{IsQuiet, effect-still, quiet-advance, quiet-advance_failed, quiet-effect, quiet-failed, quiet-malformed, quiet-plain, quiet-reported, quiet-sent, short}
 
 -- whatever history the platform stands at, since its tables say the effect
 pub still : (p k : Held) (event : Event) (x : Asked) → HasHistory p → HasHappened p k event
-    → ((change : Effect) → numbers_of change ≡ x.change → (h : List Event) → StandsAt p h → IsQuiet (board_of p) (resource_of change) (deed_after (board_of p) (deeds (board_of p) h) event))
+    → ((change : Effect) → numbers_of change ≡ x.change → (h : List Event) → StandsAt p h → IsQuiet (board_of p) (resource_changed change) (deed_after (board_of p) (deeds (board_of p) h) event))
     → IsAskable p x → IsAskable k x
 still p k event x had happened quiet may =
     let board : board_of p ≡ board_of k = sym happened.board in
@@ -66,31 +67,31 @@ askable-said p k x platform events may =
     }
 
 pub still-sent : (p k : Held) (agent : ℕ) → HasHistory p → HasHappened p k (Sent agent) → (x : Asked) → IsAskable p x → IsAskable k x
-still-sent p k agent had happened x may = still p k (Sent agent) x had happened (λ change given h at. quiet-sent (board_of p) h (resource_of change) agent) may
+still-sent p k agent had happened x may = still p k (Sent agent) x had happened (λ change given h at. quiet-sent (board_of p) h (resource_changed change) agent) may
 
 pub still-reported : (p k : Held) (effect : Effect) → HasHistory p → HasHappened p k (Reported effect) → (x : Asked) → IsAskable p x → IsAskable k x
-still-reported p k effect had happened x may = still p k (Reported effect) x had happened (λ change given h at. quiet-reported (board_of p) h (resource_of change) effect) may
+still-reported p k effect had happened x may = still p k (Reported effect) x had happened (λ change given h at. quiet-reported (board_of p) h (resource_changed change) effect) may
 
 pub still-advanced : (p k : Held) → HasHistory p → HasHappened p k Advance → (x : Asked) → IsAskable p x → IsAskable k x
-still-advanced p k had happened x may = still p k Advance x had happened (λ change given h at. quiet-advance (board_of p) h (resource_of change)) may
+still-advanced p k had happened x may = still p k Advance x had happened (λ change given h at. quiet-advance (board_of p) h (resource_changed change)) may
 
 pub still-advance_failed : (p k : Held) (fault : Fault) → HasHistory p → HasHappened p k (AdvanceFailed fault) → (x : Asked) → IsAskable p x → IsAskable k x
-still-advance_failed p k fault had happened x may = still p k (AdvanceFailed fault) x had happened (λ change given h at. quiet-advance_failed (board_of p) h (resource_of change) fault) may
+still-advance_failed p k fault had happened x may = still p k (AdvanceFailed fault) x had happened (λ change given h at. quiet-advance_failed (board_of p) h (resource_changed change) fault) may
 
 pub still-failed : (p k : Held) (agent : ℕ) (frame : Frame) (fault : Fault) → HasHistory p → HasHappened p k (CommandFailed agent frame fault) → (x : Asked) → IsAskable p x → IsAskable k x
 still-failed p k agent frame fault had happened x may =
-    still p k (CommandFailed agent frame fault) x had happened (λ change given h at. quiet-failed (board_of p) h (resource_of change) agent frame fault) may
+    still p k (CommandFailed agent frame fault) x had happened (λ change given h at. quiet-failed (board_of p) h (resource_changed change) agent frame fault) may
 
 -- a command whose change was made
 pub still-made : (p k : Held) (agent : ℕ) (frame : Frame) (effect : Effect) → HasHistory p → HasHappened p k (Called agent frame)
     → ((h : List Event) → StandsAt p h → effect_after (board_of p) h (Called agent frame) ≡ Some effect) → (x : Asked) → IsAskable p x → IsAskable k x
 still-made p k agent frame effect had happened has x may =
-    still p k (Called agent frame) x had happened (λ change given h at. quiet-effect (board_of p) h (resource_of change) agent frame effect (has h at)) may
+    still p k (Called agent frame) x had happened (λ change given h at. quiet-effect (board_of p) h (resource_changed change) agent frame effect (has h at)) may
 
 -- a command that does not disturb it
 pub still-plain : (p k : Held) (agent : ℕ) (frame : Frame) → HasHistory p → HasHappened p k (Called agent frame) → (x : Asked) → Spares frame x → IsAskable p x → IsAskable k x
 still-plain p k agent (Malformed len header) had happened x spares may =
-    still p k (Called agent (Malformed len header)) x had happened (λ change given h at. quiet-malformed (board_of p) h (resource_of change) agent len header) may
+    still p k (Called agent (Malformed len header)) x had happened (λ change given h at. quiet-malformed (board_of p) h (resource_changed change) agent len header) may
 still-plain p k agent (Good m) had happened x spares may =
     still p k (Called agent (Good m)) x had happened
     (λ change given h at. quiet-plain (board_of p) h agent m change (subst (λ (n : EffectNumbers). disturbs m n ≡ false) (sym given) spares)) may

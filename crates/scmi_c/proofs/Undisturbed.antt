@@ -1,11 +1,11 @@
 -- What becomes of a command with an effect is the same after an event that does not disturb it.
-use Rattle.std.proofs.Common.{rules, tests, ◌≡◌, ℕ, ◌≤◌, ◌&&◌, ◌||◌, Bool, true, false, not, List, [], ◌∷◌, ◌++◌, length, drop, option_map, Option, Some, None, IfSome, Result, Ok, Err, IfOk, is_none, unwrap_or, refl, sym, ap, subst, ◌∙◌, if◌then◌else◌, arith}
+use Rattle.std.proofs.Common.{rules, tests, ◌≡◌, ℕ, ◌≤◌, ◌||◌, Bool, true, false, List, [], ◌∷◌, ◌++◌, length, drop, option_map, Option, Some, None, IfSome, Result, Ok, Err, IfOk, unwrap_or, refl, sym, ap, subst, ◌∙◌, if◌then◌else◌, arith}
 use Rattle.std.specs.Prelude.{⊤}
 use Rattle.std.specs.Option.{option_and_then, option_map_or, option_to_list}
 use Rattle.std.proofs.lemmas.List.Folds.{list_any-append}
 use Rattle.scmi_codec.specs.Command.{command_of}
 use Rattle.scmi_codec.specs.Payload.{begins_with_success}
-use Rattle.scmi_codec.specs.Reply.{bit_0, other_bits, reply_unless}
+use Rattle.scmi_codec.specs.Reply.{bit_0}
 use Rattle.scmi_codec.specs.declared.base_command.BaseCommand.TheVariants as base
 use Rattle.scmi_codec.specs.declared.clock_command.ClockCommand.{ClockCommand}
 use Rattle.scmi_codec.specs.declared.clock_command.ClockCommand.TheVariants as clock
@@ -19,20 +19,21 @@ use Rattle.scmi_codec.specs.declared.power_command.PowerCommand.{PowerCommand}
 use Rattle.scmi_codec.specs.declared.power_command.PowerCommand.TheVariants as power
 use Rattle.scmi_codec.specs.declared.status.Status.{Status}
 use Rattle.scmi_codec.specs.declared.status.Status.TheVariants.{NotSupported}
-use Rattle.scmi_codec.specs.declared.status.Status.TheVariants as status
-use Rattle.scmi_plan.specs.Board.{Board, domain_at}
-use Rattle.scmi_plan.specs.declared.agent_channel.AgentChannel.{AgentChannel}
+use Rattle.scmi_plan.specs.Board.{Board}
 use Rattle.scmi_plan.specs.declared.effect.Effect.{Effect}
 use Rattle.scmi_plan.specs.declared.effect.Effect.TheVariants as effect
 use Rattle.scmi_plan.specs.declared.resource.Resource.{Resource}
 use Rattle.scmi_plan.specs.declared.resource.Resource.TheVariants as resource
 use Rattle.scmi_plan.specs.declared.scope.Scope.{Scope}
 use Rattle.scmi_base.specs.Permission.{may}
-use Rattle.scmi_power.specs.PowerReply.{PowerView, has_kind, is_state, may_set, no_domain, power_reply, set_reply}
+use Rattle.scmi_base.specs.Protocol.{resource_changed}
+use Rattle.scmi_power.specs.PowerProtocol.{state_effect}
 use Rattle.scmi_power.specs.PowerTable.{set_later, set_now}
-use Rattle.scmi_clock.specs.ClockReply.{ClockView, clock_reply, config_checks, disables_kept, no_clock, rate_for, set_checks}
+use Rattle.scmi_power.proofs.PowerLaws.{for_sets, power_laws}
+use Rattle.scmi_clock.specs.ClockProtocol.{busy_in, clock_effect, may_in}
 use Rattle.scmi_clock.specs.ClockTable.{enabled_now, rate_later, rate_now, set_rate}
-use Rattle.scmi_clock.specs.SetFlags.{has_unknown_flags, is_asynchronous, is_response_wanted}
+use Rattle.scmi_clock.specs.SetFlags.{is_asynchronous, is_response_wanted}
+use Rattle.scmi_clock.proofs.ClockLaws.{clock_laws, for_changes}
 use Rattle.scmi_core.specs.declared.event.Event.{Event}
 use Rattle.scmi_core.specs.declared.event.Event.TheVariants.{Advance, AdvanceFailed, Command as Called, CommandFailed, Reported, Sent}
 use Rattle.scmi_core.specs.declared.pending_set.PendingSet.{PendingSet}
@@ -56,12 +57,7 @@ use Rattle.scmi_core.proofs.Legal.{advances_le-accepted, deeds-push, sent_le-mad
 use Rattle.scmi_c.specs.Aside.{disturbs, is_change_of, is_permission, set_of}
 use Rattle.scmi_c.specs.Effect.{numbers_of}
 
--- the domain or clock of a change, and of a pending set
-abbrev pub resource_of : Effect → Resource
-resource_of (effect.State d state) = resource.Domain d
-resource_of (effect.Rate c rate) = resource.Clock c
-resource_of (effect.Enabled c enabled) = resource.Clock c
-
+-- the domain or clock of a pending set
 abbrev pub resource_in : Setting → Resource
 resource_in (setting.State d state) = resource.Domain d
 resource_in (setting.Rate c rate) = resource.Clock c
@@ -100,29 +96,33 @@ module _ (board : Board) (a : ℕ) (m : Message) where
   abbrev success : Command → Success
   success c = record { caller = a; header = m.header; command = c }
 
+  accepts-power : (c : PowerCommand) → Says m (Power c) → IsOwn (acceptance board (success (Power c)))
+  accepts-power =
+      for_sets (λ c. Says m (Power c) → IsOwn (option_map (state_set a m.header) (set_later c)))
+      (λ flags d state says. by (bit_0 flags) d state says)
+      (λ c now later says. subst IsOwn (sym (ap (option_map (state_set a m.header)) later)) tt)
+    where
+      by : (later : Bool) (d state : ℕ) → set_of m ≡ Some (resource.Domain d)
+          → IsOwn (option_map (state_set a m.header) (if later then Some (d, state) else None))
+      by true d state says = says
+      by false d state says = tt
+
+  accepts-clock : (c : ClockCommand) → Says m (Clock c) → IsOwn (acceptance board (success (Clock c)))
+  accepts-clock =
+      for_changes board (λ c. Says m (Clock c) → IsOwn (option_map (rate_set a m.header) (rate_later board c)))
+      (λ flags c rate says. by (is_asynchronous flags) c (set_rate board flags c rate) (is_response_wanted flags) says)
+      (λ c attributes says. tt)
+      (λ c now enabled later says. subst IsOwn (sym (ap (option_map (rate_set a m.header)) later)) tt)
+    where
+      by : (later : Bool) (c rate : ℕ) (wanted : Bool) → set_of m ≡ Some (resource.Clock c)
+          → IsOwn (option_map (rate_set a m.header) (if later then Some (c, rate, wanted) else None))
+      by true c rate wanted says = says
+      by false c rate wanted says = tt
+
   accepts-at : (c : Command) → Says m c → IsOwn (acceptance board (success c))
   accepts-at (Base c) says = tt
-  accepts-at (Power (power.Set flags d state)) says = by (bit_0 flags) where
-    by : (later : Bool) → IsOwn (option_map (state_set a m.header) (if later then Some (d, state) else None))
-    by true = says
-    by false = tt
-  accepts-at (Power power.Version) says = tt
-  accepts-at (Power power.Attributes) says = tt
-  accepts-at (Power (power.MessageAttributes message)) says = tt
-  accepts-at (Power (power.DomainAttributes d)) says = tt
-  accepts-at (Power (power.Get d)) says = tt
-  accepts-at (Power (power.Notify d enable)) says = tt
-  accepts-at (Clock (clock.SetRate flags c rate)) says = by (is_asynchronous flags) where
-    by : (later : Bool) → IsOwn (option_map (rate_set a m.header) (if later then Some (c, set_rate board flags c rate, is_response_wanted flags) else None))
-    by true = says
-    by false = tt
-  accepts-at (Clock clock.Version) says = tt
-  accepts-at (Clock clock.Attributes) says = tt
-  accepts-at (Clock (clock.MessageAttributes message)) says = tt
-  accepts-at (Clock (clock.ClockAttributes c)) says = tt
-  accepts-at (Clock (clock.Describe c index)) says = tt
-  accepts-at (Clock (clock.GetRate c)) says = tt
-  accepts-at (Clock (clock.Config c attributes)) says = tt
+  accepts-at (Power c) says = accepts-power c says
+  accepts-at (Clock c) says = accepts-clock c says
 
   accepts-with : (done : Bool) (r : Result Command Status) → IfOk r (Says m) → IsOwn (option_and_then (acceptance board) (if done then success_with a m.header r else None))
   accepts-with true (Ok c) says = accepts-at c says
@@ -184,143 +184,49 @@ module _ (board : Board) (b : ℕ) (s : Situation) (r : Resource) (deed : Deed) 
 
 -- THE REPLY TO A SET AT ONCE
 
-no_room : (asks room : Bool) → asks ≡ false → (asks && not room) ≡ false
-no_room true room off = absurd (let it : true ≡ false = off in cc)
-no_room false room off = refl
-
-power-still : (board : Board) (v w : PowerView) (flags d state : ℕ) → bit_0 flags ≡ false → v.channel ≡ w.channel → v.may d ≡ w.may d → v.busy d ≡ w.busy d
-    → power_reply board v (power.Set flags d state) ≡ power_reply board w (power.Set flags d state)
-unfolding power_reply
-power-still board v w flags d state now channel may busy =
-    ap (λ (c : AgentChannel). set_reply board c (may_set board (v.may d) d state) (v.busy d) v.room flags d state) channel
-    ∙ ap (λ (b : Bool). set_reply board w.channel (may_set board b d state) (v.busy d) v.room flags d state) may
-    ∙ ap (λ (b : Bool). set_reply board w.channel (may_set board (w.may d) d state) b v.room flags d state) busy
-    ∙ by (no_room (bit_0 flags) v.room now ∙ sym (no_room (bit_0 flags) w.room now))
-  where
-    by : (bit_0 flags && not v.room) ≡ (bit_0 flags && not w.room)
-        → set_reply board w.channel (may_set board (w.may d) d state) (w.busy d) v.room flags d state ≡ set_reply board w.channel (may_set board (w.may d) d state) (w.busy d) w.room flags d state
-    by same = search (rules, same)
-
-clock-still : (board : Board) (v w : ClockView) (flags c rate : ℕ) → is_asynchronous flags ≡ false → v.channel ≡ w.channel → v.may c ≡ w.may c → v.busy c ≡ w.busy c
-    → clock_reply board v (clock.SetRate flags c rate) ≡ clock_reply board w (clock.SetRate flags c rate)
-unfolding clock_reply
-clock-still board v w flags c rate now channel may busy =
-    ap (λ (k : AgentChannel). reply_unless (set_checks board k (v.may c) (v.busy c) v.room flags c rate) (0 ∷ [])) channel
-    ∙ ap (λ (b : Bool). reply_unless (set_checks board w.channel b (v.busy c) v.room flags c rate) (0 ∷ [])) may
-    ∙ ap (λ (b : Bool). reply_unless (set_checks board w.channel (w.may c) b v.room flags c rate) (0 ∷ [])) busy
-    ∙ by (no_room (is_asynchronous flags) v.room now ∙ sym (no_room (is_asynchronous flags) w.room now))
-  where
-    by : (is_asynchronous flags && not v.room) ≡ (is_asynchronous flags && not w.room)
-        → reply_unless (set_checks board w.channel (w.may c) (w.busy c) v.room flags c rate) (0 ∷ []) ≡ reply_unless (set_checks board w.channel (w.may c) (w.busy c) w.room flags c rate) (0 ∷ [])
-    by same = search (rules, same)
-
-config-still : (board : Board) (v w : ClockView) (c attributes : ℕ) → v.may c ≡ w.may c
-    → clock_reply board v (clock.Config c attributes) ≡ clock_reply board w (clock.Config c attributes)
-unfolding clock_reply
-config-still board v w c attributes may =
-    ap (λ (b : Bool). reply_unless (config_checks board (b && not (disables_kept board c attributes)) c attributes) (0 ∷ [])) may
-
--- a set that was not refused as busy
-not-busy : (a b c d busy : Bool)
-    → reply_unless ((a, status.NotFound) ∷ (b, status.InvalidParameters) ∷ (c, status.NotSupported) ∷ (d, status.Denied) ∷ (busy, status.Busy) ∷ []) (0 ∷ []) ≡ 0 ∷ [] → busy ≡ false
-not-busy true b c d busy is = absurd (cc)
-not-busy false true c d busy is = absurd (cc)
-not-busy false false true d busy is = absurd (cc)
-not-busy false false false true busy is = absurd (cc)
-not-busy false false false false true is = absurd (cc)
-not-busy false false false false false is = refl
-
-power-free : (board : Board) (v : PowerView) (flags d state : ℕ) → power_reply board v (power.Set flags d state) ≡ 0 ∷ [] → v.busy d ≡ false
-unfolding power_reply
-power-free board v flags d state is =
-    (parts (v.busy d) (bit_0 flags && not v.room)
-    (not-busy (no_domain board d) (other_bits flags || not (is_state state)) (not (has_kind v.channel (domain_at board d) flags)) (not (may_set board (v.may d) d state)) (v.busy d || (bit_0 flags && not v.room)) is)).0
-
-clock-free : (board : Board) (v : ClockView) (flags c rate : ℕ) → clock_reply board v (clock.SetRate flags c rate) ≡ 0 ∷ [] → v.busy c ≡ false
-unfolding clock_reply
-clock-free board v flags c rate is =
-    (parts (v.busy c) (is_asynchronous flags && not v.room)
-    (not-busy (no_clock board c) (has_unknown_flags flags || is_none (rate_for board c flags rate)) (v.channel.one_way && is_asynchronous flags) (not (v.may c)) (v.busy c || (is_asynchronous flags && not v.room)) is)).0
-
--- what a set at once is of
-first_of_pair : {A : Type 0} → Option (ℕ × A) → ℕ
-first_of_pair None = 0
-first_of_pair (Some pair) = pair.0
-
--- a set that is not for later
-abbrev unless : Bool → ℕ × ℕ → Option (ℕ × ℕ)
-unless later set = if later then None else Some set
-
 module _ (board : Board) (b : ℕ) (s u : Situation) where
   -- two situations are the same to a set of this domain or clock
   record IsSameTo (r : Resource) : Type 0 where
     pub may : may board s.allowed r ≡ may board u.allowed r
     pub free : has_set_of r s.pending ≡ false → has_set_of r u.pending ≡ false
 
-  power-same : (c : PowerCommand) (d state : ℕ) → set_now c ≡ Some (d, state) → reply_words board b s (Ok (Power c)) ≡ 0 ∷ [] → IsSameTo (resource.Domain d) → reply_words board b s (Ok (Power c)) ≡ reply_words board b u (Ok (Power c))
-  unfolding reply_words first_of_pair
-  power-same power.Version d state now ok same = absurd (cc)
-  power-same power.Attributes d state now ok same = absurd (cc)
-  power-same (power.MessageAttributes message) d state now ok same = absurd (cc)
-  power-same (power.DomainAttributes domain) d state now ok same = absurd (cc)
-  power-same (power.Get domain) d state now ok same = absurd (cc)
-  power-same (power.Notify domain enable) d state now ok same = absurd (cc)
-  power-same (power.Set flags domain state') d state now ok same = by (bit_0 flags) refl now where
-    by : (later : Bool) → bit_0 flags ≡ later → unless later (domain, state') ≡ Some (d, state)
-        → reply_words board b s (Ok (Power (power.Set flags domain state'))) ≡ reply_words board b u (Ok (Power (power.Set flags domain state')))
-    by true is none = absurd (cc)
-    by false is one =
-        let own : IsSameTo (resource.Domain domain) = subst (λ (k : ℕ). IsSameTo (resource.Domain k)) (sym (ap first_of_pair one)) same in
-        let free = power-free board (power_view board b s) flags domain state' ok in
-        power-still board (power_view board b s) (power_view board b u) flags domain state' is refl own.may (free ∙ sym (own.free free))
+  power-same : (c : PowerCommand) (d state : ℕ) → set_now c ≡ Some (d, state) → reply_words board b s (Ok (Power c)) ≡ 0 ∷ []
+      → IsSameTo (resource.Domain d) → reply_words board b s (Ok (Power c)) ≡ reply_words board b u (Ok (Power c))
+  unfolding reply_words
+  power-same c d state now ok same =
+      power_laws.still board (power_view board b s) (power_view board b u) c (effect.State d state)
+      (ap begins_with_success ok) (ap (option_map state_effect) now) refl same.may same.free
 
-  rate-same : (c : ClockCommand) (k rate : ℕ) → rate_now board c ≡ Some (k, rate) → reply_words board b s (Ok (Clock c)) ≡ 0 ∷ [] → IsSameTo (resource.Clock k) → reply_words board b s (Ok (Clock c)) ≡ reply_words board b u (Ok (Clock c))
-  unfolding reply_words first_of_pair
-  rate-same clock.Version k rate now ok same = absurd (cc)
-  rate-same clock.Attributes k rate now ok same = absurd (cc)
-  rate-same (clock.MessageAttributes message) k rate now ok same = absurd (cc)
-  rate-same (clock.ClockAttributes c) k rate now ok same = absurd (cc)
-  rate-same (clock.Describe c index) k rate now ok same = absurd (cc)
-  rate-same (clock.GetRate c) k rate now ok same = absurd (cc)
-  rate-same (clock.Config c attributes) k rate now ok same = absurd (cc)
-  rate-same (clock.SetRate flags c asked) k rate now ok same = by (is_asynchronous flags) refl now where
-    by : (later : Bool) → is_asynchronous flags ≡ later → unless later (c, set_rate board flags c asked) ≡ Some (k, rate)
-        → reply_words board b s (Ok (Clock (clock.SetRate flags c asked))) ≡ reply_words board b u (Ok (Clock (clock.SetRate flags c asked)))
-    by true is none = absurd (cc)
-    by false is one =
-        let own : IsSameTo (resource.Clock c) = subst (λ (n : ℕ). IsSameTo (resource.Clock n)) (sym (ap first_of_pair one)) same in
-        let free = clock-free board (clock_view board b s) flags c asked ok in
-        clock-still board (clock_view board b s) (clock_view board b u) flags c asked is refl own.may (free ∙ sym (own.free free))
-
-  config-same : (c : ClockCommand) (k : ℕ) (enabled : Bool) → enabled_now c ≡ Some (k, enabled) → IsSameTo (resource.Clock k) → reply_words board b s (Ok (Clock c)) ≡ reply_words board b u (Ok (Clock c))
-  unfolding reply_words first_of_pair
-  config-same clock.Version k enabled now same = absurd (cc)
-  config-same clock.Attributes k enabled now same = absurd (cc)
-  config-same (clock.MessageAttributes message) k enabled now same = absurd (cc)
-  config-same (clock.ClockAttributes c) k enabled now same = absurd (cc)
-  config-same (clock.Describe c index) k enabled now same = absurd (cc)
-  config-same (clock.GetRate c) k enabled now same = absurd (cc)
-  config-same (clock.SetRate flags c asked) k enabled now same = absurd (cc)
-  config-same (clock.Config c attributes) k enabled now same =
-      let own : IsSameTo (resource.Clock c) = subst (λ (n : ℕ). IsSameTo (resource.Clock n)) (sym (ap first_of_pair now)) same in
-      config-still board (clock_view board b s) (clock_view board b u) c attributes own.may
+  clock-same : (c : ClockCommand) (e : Effect) → clock_effect (rate_now board c) (enabled_now c) ≡ Some e
+      → reply_words board b s (Ok (Clock c)) ≡ 0 ∷ []
+      → may_in (clock_view board b s) (resource_changed e) ≡ may_in (clock_view board b u) (resource_changed e)
+      → (busy_in (clock_view board b s) (resource_changed e) ≡ false → busy_in (clock_view board b u) (resource_changed e) ≡ false)
+      → reply_words board b s (Ok (Clock c)) ≡ reply_words board b u (Ok (Clock c))
+  unfolding reply_words
+  clock-same c e now ok may free =
+      clock_laws.still board (clock_view board b s) (clock_view board b u) c e (ap begins_with_success ok) now refl may free
 
   read-reply : (a : ℕ) (v : Situation) (r q : Result Command Status) → r ≡ q → reply_words board a v r ≡ 0 ∷ [] → reply_words board a v q ≡ 0 ∷ []
   read-reply a v r q same ok = subst (λ (x : Result Command Status). reply_words board a v x ≡ 0 ∷ []) same ok
 
-  reply-same : (m : Message) (e : Effect) → effect_by board b m.header s (command_on board m) ≡ Some e → IsSameTo (resource_of e)
+  reply-same : (m : Message) (e : Effect) → effect_by board b m.header s (command_on board m) ≡ Some e → IsSameTo (resource_changed e)
       → reply_words board b s (command_on board m) ≡ reply_words board b u (command_on board m)
   reply-same m (effect.State d state) has same =
       let set = state-set board b m.header s (command_on board m) d state has in
       subst (λ (r : Result Command Status). reply_words board b s r ≡ reply_words board b u r) (sym set.read) (power-same set.command d state set.now (read-reply b s (command_on board m) (Ok (Power set.command)) set.read set.reply) same)
   reply-same m (effect.Rate k rate) has same =
       let set = rate-set board b m.header s (command_on board m) k rate has in
-      subst (λ (r : Result Command Status). reply_words board b s r ≡ reply_words board b u r) (sym set.read) (rate-same set.command k rate set.now (read-reply b s (command_on board m) (Ok (Clock set.command)) set.read set.reply) same)
+      let now = ap (λ (r : Option (ℕ × ℕ)). clock_effect r (enabled_now set.command)) set.now in
+      subst (λ (r : Result Command Status). reply_words board b s r ≡ reply_words board b u r) (sym set.read)
+      (clock-same set.command (effect.Rate k rate) now (read-reply b s (command_on board m) (Ok (Clock set.command)) set.read set.reply) same.may same.free)
   reply-same m (effect.Enabled k enabled) has same =
       let set = config-set board b m.header s (command_on board m) k enabled has in
-      subst (λ (r : Result Command Status). reply_words board b s r ≡ reply_words board b u r) (sym set.read) (config-same set.command k enabled set.now same)
+      let now = ap (λ (r : Option (ℕ × ℕ)). clock_effect r (enabled_now set.command)) set.other
+      ∙ ap (clock_effect None) set.now in
+      subst (λ (r : Result Command Status). reply_words board b s r ≡ reply_words board b u r) (sym set.read)
+      (clock-same set.command (effect.Enabled k enabled) now (read-reply b s (command_on board m) (Ok (Clock set.command)) set.read set.reply) same.may same.free)
 
-  effect-same : (f : Frame) (e : Effect) → effect_in board b f s ≡ Some e → IsSameTo (resource_of e) → effect_in board b f u ≡ Some e
+  effect-same : (f : Frame) (e : Effect) → effect_in board b f s ≡ Some e → IsSameTo (resource_changed e) → effect_in board b f u ≡ Some e
   effect-same (Malformed len header) e has same = absurd (let no : None ≡ Some e = has in cc)
   effect-same (Good m) e has same =
       let fit = effect-fits board b m s e has in
@@ -342,7 +248,7 @@ effect-stood board h b (Malformed len header) = refl
 
 -- the effect is the same after one more event that is quiet
 pub effect-still : (board : Board) (h : List Event) (e : Event) (b : ℕ) (f : Frame) (change : Effect) → IsLegal board h
-    → IsQuiet board (resource_of change) (deed_after board (deeds board h) e)
+    → IsQuiet board (resource_changed change) (deed_after board (deeds board h) e)
     → effect_after board h (Called b f) ≡ Some change → effect_after board (h ++ e ∷ []) (Called b f) ≡ Some change
 effect-still board h e b f change legal quiet has =
     let ds = deeds board h in
@@ -354,7 +260,7 @@ effect-still board h e b f change legal quiet has =
     sym (effect-stood board (h ++ e ∷ []) b f)
     ∙ ap (effect_in board b f) same
     ∙ effect-same board b s u f change (effect-stood board h b f ∙ has)
-    (record { may = may-still board b s (resource_of change) deed quiet; free = quiet.leaves s.pending })
+    (record { may = may-still board b s (resource_changed change) deed quiet; free = quiet.leaves s.pending })
 
 -- THE EVENTS THAT ARE QUIET
 
@@ -375,7 +281,7 @@ pub quiet-advance_failed : (board : Board) (h : List Event) (r : Resource) (faul
 quiet-advance_failed board h r fault = record { permits = λ b d scope. refl; leaves = without-first r }
 
 -- whether a set is of the domain or clock of a change, as numbers
-is-own : (change : Effect) (s : Setting) → is_set_by (resource_of change) s ≡ is_change_of (numbers_of change) (resource_in s)
+is-own : (change : Effect) (s : Setting) → is_set_by (resource_changed change) s ≡ is_change_of (numbers_of change) (resource_in s)
 is-own (effect.State d state) (setting.State e state') = refl
 is-own (effect.State d state) (setting.Rate c rate) = refl
 is-own (effect.Rate c rate) (setting.State e state) = refl
@@ -385,7 +291,7 @@ is-own (effect.Enabled c enabled) (setting.Rate k rate) = refl
 
 -- a command that does not disturb
 pub quiet-plain : (board : Board) (h : List Event) (a : ℕ) (m : Message) (change : Effect) → disturbs m (numbers_of change) ≡ false
-    → IsQuiet board (resource_of change) (deed_after board (deeds board h) (Called a (Good m)))
+    → IsQuiet board (resource_changed change) (deed_after board (deeds board h) (Called a (Good m)))
 quiet-plain board h a m change plain =
     let words = words_given board a (situation_after board a (deeds board h)) m in
     let two = parts (is_permission m.header) (option_map_or (is_change_of (numbers_of change)) (set_of m) false) plain in
@@ -393,15 +299,15 @@ quiet-plain board h a m change plain =
     record {
       permits = permits-with board a m (begins_with_success words) (command_on board m) says two.0;
       leaves = λ pending none.
-          with-more (resource_of change) pending (option_to_list (option_and_then (acceptance board) (success_of a m.header (command_on board m) words)))
+          with-more (resource_changed change) pending (option_to_list (option_and_then (acceptance board) (success_of a m.header (command_on board m) words)))
           (by (option_and_then (acceptance board) (success_of a m.header (command_on board m) words)) (accepts-with board a m (begins_with_success words) (command_on board m) says) two.1) none;
     }
   where
     by : (o : Option PendingSet) → IfSome o (λ set. set_of m ≡ Some (resource_in set.setting)) → option_map_or (is_change_of (numbers_of change)) (set_of m) false ≡ false
-        → has_set_of (resource_of change) (option_to_list o) ≡ false
+        → has_set_of (resource_changed change) (option_to_list o) ≡ false
     by None own off = refl
     by (Some set) own off =
-        or_false (is_set_by (resource_of change) set.setting)
+        or_false (is_set_by (resource_changed change) set.setting)
         ∙ is-own change set.setting
         ∙ ap (λ (o : Option Resource). option_map_or (is_change_of (numbers_of change)) o false) (sym own)
         ∙ off

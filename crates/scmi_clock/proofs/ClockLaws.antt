@@ -1,5 +1,5 @@
 -- The clock protocol keeps the laws of a protocol.
-use Rattle.std.proofs.Common.{◌≡◌, ◌⊎◌, inl, inr, ℕ, suc, ◌+◌, ◌-◌, ◌*◌, ◌/◌, ◌≤◌, ◌==◌, ◌&&◌, Bool, true, false, not, List, [], ◌∷◌, length, take, drop, Option, Some, None, option_map, unwrap_or, refl, ap, subst, arith, if◌then◌else◌}
+use Rattle.std.proofs.Common.{rules, ◌≡◌, ◌⊎◌, inl, inr, ℕ, suc, ◌+◌, ◌-◌, ◌*◌, ◌/◌, ◌≤◌, ◌==◌, ◌&&◌, Bool, true, false, not, List, [], ◌∷◌, length, take, drop, Option, Some, None, option_map, unwrap_or, refl, sym, ap, ◌∙◌, subst, arith, if◌then◌else◌}
 use Rattle.std.specs.Prelude.{min}
 use Rattle.std.specs.List.{flat_map}
 use Rattle.std.specs.Option.{option_or}
@@ -20,8 +20,8 @@ use Rattle.scmi_plan.specs.declared.effect.Effect.{Effect}
 use Rattle.scmi_plan.specs.declared.effect.Effect.TheVariants as effect
 use Rattle.scmi_plan.specs.declared.resource.Resource.TheVariants as resource
 use Rattle.scmi_base.specs.Protocol.{HasResource, IsProtocol, Succeeds, change_wanted, resource_changed}
-use Rattle.scmi_base.proofs.CheckedReplies.{by_checks, checked, found, may_alone, not_forbidden, passed, room_of, set-allowed}
-use Rattle.scmi_clock.specs.ClockProtocol.{clock_effect, clock_protocol, later_effect, may_in, switches_off}
+use Rattle.scmi_base.proofs.CheckedReplies.{by_checks, checked, found, free_of, may_alone, no_room, not_forbidden, passed, room_of, set-allowed}
+use Rattle.scmi_clock.specs.ClockProtocol.{busy_in, clock_effect, clock_protocol, later_effect, may_in, only_reads, switches_off}
 use Rattle.scmi_clock.specs.ClockReply.{ClockView, clock_reply, config_checks, disables_kept, most_rates, no_clock, past_end, rates_words, set_checks}
 use Rattle.scmi_clock.specs.ClockTable.{enabled_now, rate_later, rate_now, set_rate}
 use Rattle.scmi_clock.specs.SetFlags.{is_asynchronous, is_response_wanted}
@@ -71,17 +71,41 @@ within board v (clock.Config c attributes) law =
     let eight = law.0 in
     by_checks v.channel.words (omega (arith, eight)) (config_checks board (v.may c && not (disables_kept board c attributes)) c attributes) (0 ∷ []) (omega (arith, eight))
 
+-- what is so of a command that only reads
+record Reads (board : Board) (c : ClockCommand) : Type 0 where
+  pub only : only_reads c ≡ true
+  pub now : rate_now board c ≡ None
+  pub enabled : enabled_now c ≡ None
+  pub later : rate_later board c ≡ None
+
+-- a command gives a rate, or it enables or disables a clock, or it only reads
+for_kinds : (board : Board) (P : ClockCommand → Type 0) → ((flags c rate : ℕ) → P (clock.SetRate flags c rate))
+    → ((c attributes : ℕ) → P (clock.Config c attributes))
+    → ((c : ClockCommand) → Reads board c → P c) → (c : ClockCommand) → P c
+for_kinds board P rate config reads c = by c where
+  plain : {c : ClockCommand} → only_reads c ≡ true → rate_now board c ≡ None → enabled_now c ≡ None
+      → rate_later board c ≡ None → Reads board c
+  plain only now enabled later =
+      record { only = only; now = now; enabled = enabled; later = later }
+
+  by : (c : ClockCommand) → P c
+  by clock.Version = reads clock.Version (plain refl refl refl refl)
+  by clock.Attributes = reads clock.Attributes (plain refl refl refl refl)
+  by (clock.MessageAttributes message) =
+      reads (clock.MessageAttributes message) (plain refl refl refl refl)
+  by (clock.ClockAttributes c) = reads (clock.ClockAttributes c) (plain refl refl refl refl)
+  by (clock.Describe c index) = reads (clock.Describe c index) (plain refl refl refl refl)
+  by (clock.GetRate c) = reads (clock.GetRate c) (plain refl refl refl refl)
+  by (clock.SetRate flags c given) = rate flags c given
+  by (clock.Config c attributes) = config c attributes
+
 -- a command gives a rate, or it enables or disables a clock, or it changes nothing
-for_changes : (board : Board) (P : ClockCommand → Type 0) → ((flags c rate : ℕ) → P (clock.SetRate flags c rate)) → ((c attributes : ℕ) → P (clock.Config c attributes))
-    → ((c : ClockCommand) → rate_now board c ≡ None → enabled_now c ≡ None → rate_later board c ≡ None → P c) → (c : ClockCommand) → P c
-for_changes board P rate config none clock.Version = none clock.Version refl refl refl
-for_changes board P rate config none clock.Attributes = none clock.Attributes refl refl refl
-for_changes board P rate config none (clock.MessageAttributes message) = none (clock.MessageAttributes message) refl refl refl
-for_changes board P rate config none (clock.ClockAttributes c) = none (clock.ClockAttributes c) refl refl refl
-for_changes board P rate config none (clock.Describe c index) = none (clock.Describe c index) refl refl refl
-for_changes board P rate config none (clock.GetRate c) = none (clock.GetRate c) refl refl refl
-for_changes board P rate config none (clock.SetRate flags c given) = rate flags c given
-for_changes board P rate config none (clock.Config c attributes) = config c attributes
+pub for_changes : (board : Board) (P : ClockCommand → Type 0) → ((flags c rate : ℕ) → P (clock.SetRate flags c rate))
+    → ((c attributes : ℕ) → P (clock.Config c attributes))
+    → ((c : ClockCommand) → rate_now board c ≡ None → enabled_now c ≡ None → rate_later board c ≡ None → P c)
+    → (c : ClockCommand) → P c
+for_changes board P rate config none =
+    for_kinds board P rate config (λ c reads. none c reads.now reads.enabled reads.later)
 
 -- a rate is set, or a clock is enabled or disabled, not both
 pub never_both : (board : Board) (c : ClockCommand) → (rate_now board c ≡ None) ⊎ (enabled_now c ≡ None)
@@ -115,6 +139,24 @@ wanted_is false wanted c rate e is = ap (λ o. unwrap_or o e) is
 now_is : (b : Bool) (c rate : ℕ) (e : Effect) → clock_effect (if b then None else Some (c, rate)) None ≡ Some e → effect.Rate c rate ≡ e
 now_is true c rate e is = absurd (cc)
 now_is false c rate e is = ap (λ o. unwrap_or o e) is
+
+at_once : (b : Bool) (set : ℕ × ℕ) (e : Effect) → clock_effect (if b then None else Some set) None ≡ Some e
+    → b ≡ false
+at_once true set e is = absurd (cc)
+at_once false set e is = refl
+
+-- a set is made now or later
+one_is : (b : Bool) (now : ℕ × ℕ) (later : ℕ × ℕ × Bool) → clock_effect (if b then None else Some now) None ≡ None
+    → option_map later_effect (if b then Some later else None) ≡ None → {A : Type 0} → A
+one_is true now later none after = absurd (cc)
+one_is false now later none after = absurd (cc)
+
+-- what gives no rate, and enables and disables nothing, makes no change
+no_effect : (rate : Option (ℕ × ℕ)) (enabled : Option (ℕ × Bool)) → rate ≡ None → enabled ≡ None
+    → clock_effect rate enabled ≡ None
+no_effect None None r n = refl
+no_effect (Some x) enabled r n = absurd (cc)
+no_effect None (Some x) r n = absurd (cc)
 
 later_is : (b : Bool) (set : ℕ × ℕ × Bool) (e : Effect) → option_map later_effect (if b then Some set else None) ≡ Some e → b ≡ true
 later_is true set e is = refl
@@ -219,6 +261,83 @@ module _ (board : Board) where
         (found (length board.clocks) c (is_absent board (resource.Clock c)) (drop 1 (config_checks board (v.may c && not (disables_kept board c attributes)) c attributes)) ok))
         (λ c now enabled later ok is. none_now (rate_now board c) (enabled_now c) e now enabled is) c
 
+    -- a set at once is answered the same where what its checks read of its caller is the same
+    same : (w : ClockView) (flags c rate : ℕ) → is_asynchronous flags ≡ false → v.channel ≡ w.channel
+        → v.may c ≡ w.may c → v.busy c ≡ w.busy c
+        → clock_reply board v (clock.SetRate flags c rate) ≡ clock_reply board w (clock.SetRate flags c rate)
+    unfolding clock_reply
+    same w flags c rate now channel may busy =
+        ap (λ (k : AgentChannel). reply_unless (set_checks board k (v.may c) (v.busy c) v.room flags c rate) (0 ∷ [])) channel
+        ∙ ap (λ (b : Bool). reply_unless (set_checks board w.channel b (v.busy c) v.room flags c rate) (0 ∷ [])) may
+        ∙ ap (λ (b : Bool). reply_unless (set_checks board w.channel (w.may c) b v.room flags c rate) (0 ∷ [])) busy
+        ∙ by (no_room (is_asynchronous flags) v.room now ∙ sym (no_room (is_asynchronous flags) w.room now))
+      where
+        by : (is_asynchronous flags && not v.room) ≡ (is_asynchronous flags && not w.room)
+            → reply_unless (set_checks board w.channel (w.may c) (w.busy c) v.room flags c rate) (0 ∷ []) ≡ reply_unless (set_checks board w.channel (w.may c) (w.busy c) w.room flags c rate) (0 ∷ [])
+        by is = search (rules, is)
+
+    same_config : (w : ClockView) (c attributes : ℕ) → v.may c ≡ w.may c
+        → clock_reply board v (clock.Config c attributes) ≡ clock_reply board w (clock.Config c attributes)
+    unfolding clock_reply
+    same_config w c attributes may =
+        ap (λ (b : Bool). reply_unless (config_checks board (b && not (disables_kept board c attributes)) c attributes) (0 ∷ [])) may
+
+    still : (w : ClockView) (c : ClockCommand) (e : Effect) → Succeeds clock_protocol board v c
+        → clock_effect (rate_now board c) (enabled_now c) ≡ Some e → v.channel ≡ w.channel
+        → may_in v (resource_changed e) ≡ may_in w (resource_changed e)
+        → (busy_in v (resource_changed e) ≡ false → busy_in w (resource_changed e) ≡ false)
+        → clock_reply board v c ≡ clock_reply board w c
+    unfolding clock_reply
+    still w c e ok is channel may busy = by c ok is where
+      IsSame : ClockCommand → Type 0
+      IsSame c = Succeeds clock_protocol board v c → clock_effect (rate_now board c) (enabled_now c) ≡ Some e
+          → clock_reply board v c ≡ clock_reply board w c
+
+      rate-same : (flags c rate : ℕ) → IsSame (clock.SetRate flags c rate)
+      rate-same flags c rate ok is =
+          let own = sym (now_is (is_asynchronous flags) c (set_rate board flags c rate) e is) in
+          let free : v.busy c ≡ false = free_of _ _ _ _ (v.busy c) _ ok in
+          let left : v.busy c ≡ false → w.busy c ≡ false
+          = subst (λ x. busy_in v (resource_changed x) ≡ false → busy_in w (resource_changed x) ≡ false) own busy in
+          same w flags c rate (at_once (is_asynchronous flags) (c, set_rate board flags c rate) e is) channel
+          (subst (λ x. may_in v (resource_changed x) ≡ may_in w (resource_changed x)) own may)
+          (free ∙ sym (left free))
+
+      config-same : (c attributes : ℕ) → IsSame (clock.Config c attributes)
+      config-same c attributes ok is =
+          let own = sym (config_is c (bit_0 attributes) e is) in
+          same_config w c attributes (subst (λ x. may_in v (resource_changed x) ≡ may_in w (resource_changed x)) own may)
+
+      by : (c : ClockCommand) → IsSame c
+      by =
+          for_changes board IsSame rate-same config-same
+          (λ c now enabled later ok is. none_now (rate_now board c) (enabled_now c) e now enabled is)
+
+  quiet : (c : ClockCommand) → only_reads c ≡ true
+      → (clock_effect (rate_now board c) (enabled_now c) ≡ None) × (option_map later_effect (rate_later board c) ≡ None)
+      × ((a d caller : ℕ) → clock_protocol.request a d caller c ≡ None)
+  quiet =
+      for_kinds board
+      (λ c. only_reads c ≡ true → (clock_effect (rate_now board c) (enabled_now c) ≡ None)
+      × (option_map later_effect (rate_later board c) ≡ None)
+      × ((a d caller : ℕ) → clock_protocol.request a d caller c ≡ None))
+      (λ flags c rate only. absurd (let no : false ≡ true = only in cc))
+      (λ c attributes only. absurd (let no : false ≡ true = only in cc))
+      (λ c reads only.
+      (no_effect (rate_now board c) (enabled_now c) reads.now reads.enabled, ap (option_map later_effect) reads.later, λ a d caller. refl))
+
+  acts : (c : ClockCommand) (a : ℕ) → clock_effect (rate_now board c) (enabled_now c) ≡ None
+      → option_map later_effect (rate_later board c) ≡ None
+      → ((d : ℕ) → clock_protocol.request a d a c ≡ None) → only_reads c ≡ true
+  acts c a =
+      for_kinds board
+      (λ c. clock_effect (rate_now board c) (enabled_now c) ≡ None → option_map later_effect (rate_later board c) ≡ None
+      → ((d : ℕ) → clock_protocol.request a d a c ≡ None) → only_reads c ≡ true)
+      (λ flags c rate now later none.
+      one_is (is_asynchronous flags) (c, set_rate board flags c rate) (c, set_rate board flags c rate, is_response_wanted flags) now later)
+      (λ c attributes now later none. absurd (let no : Some (effect.Enabled c (bit_0 attributes)) ≡ None = now in cc))
+      (λ c reads now later none. reads.only) c
+
 pub clock_laws : IsProtocol clock_protocol
 clock_laws = record {
   within = within;
@@ -231,4 +350,7 @@ clock_laws = record {
   told = told;
   made = made;
   known = known;
+  still = still;
+  quiet = quiet;
+  acts = acts;
 }

@@ -1,7 +1,8 @@
 -- The clock protocol as the relation that each protocol is.
-use Rattle.std.specs.Prelude.{ℕ, Bool, false, not, Option, None, option_map}
+use Rattle.std.specs.Prelude.{ℕ, Bool, true, false, not, Option, None, option_map}
 use Rattle.std.specs.Option.{option_or}
 use Rattle.scmi_codec.specs.declared.clock_command.ClockCommand.{ClockCommand}
+use Rattle.scmi_codec.specs.declared.clock_command.ClockCommand.TheVariants as clock
 use Rattle.scmi_plan.specs.declared.effect.Effect.{Effect}
 use Rattle.scmi_plan.specs.declared.effect.Effect.TheVariants as effect
 use Rattle.scmi_plan.specs.declared.resource.Resource.{Resource}
@@ -23,6 +24,17 @@ abbrev pub may_in : ClockView → Resource → Bool
 may_in v (resource.Domain d) = false
 may_in v (resource.Clock c) = v.may c
 
+-- whether a set of a clock is pending
+abbrev pub busy_in : ClockView → Resource → Bool
+busy_in v (resource.Domain d) = false
+busy_in v (resource.Clock c) = v.busy c
+
+-- whether a command only reads: it sets no rate, and enables or disables no clock
+abbrev pub only_reads : ClockCommand → Bool
+only_reads (clock.SetRate flags c rate) = false
+only_reads (clock.Config c attributes) = false
+only_reads _ = true
+
 -- whether a change switches a clock off
 abbrev pub switches_off : Effect → Bool
 switches_off (effect.Enabled c enabled) = not enabled
@@ -31,11 +43,13 @@ switches_off _ = false
 abbrev pub clock_protocol : Protocol ClockView ClockCommand
 clock_protocol = record {
   may = may_in;
+  busy = busy_in;
   room = λ v. v.room;
   channel = λ v. v.channel;
   reply = clock_reply;
   now = λ board c. clock_effect (rate_now board c) (enabled_now c);
   later = λ board c. option_map later_effect (rate_later board c);
+  only_reads = only_reads;
   request = λ a d caller c. None;
   switches_off = switches_off;
 }

@@ -4,16 +4,15 @@ use Rattle.std.specs.Prelude.{IfSome, Result, Ok, Err}
 use Rattle.std.specs.Option.{option_and_then, option_map_or, option_or, option_to_list}
 use Rattle.std.proofs.lemmas.List.{append-nil}
 use Rattle.std.proofs.lemmas.List.Elements.{All-pop}
-use Rattle.std.proofs.lemmas.Bool.{eq-eqb, eqb-true, ne_eqb}
+use Rattle.std.proofs.lemmas.Bool.{eq-eqb, eqb-true}
 use Rattle.scmi_codec.specs.Header.{HeaderFields}
 use Rattle.scmi_codec.specs.Payload.{begins_with_success}
-use Rattle.scmi_codec.specs.Reply.{Check, bit_0, other_bits, reply_unless}
+use Rattle.scmi_codec.specs.Reply.{Check, other_bits, reply_unless}
 use Rattle.scmi_codec.specs.declared.status.Status.{Status}
 use Rattle.scmi_codec.specs.declared.status.Status.TheVariants.{NotFound, InvalidParameters, Denied}
 use Rattle.scmi_codec.specs.declared.base_command.BaseCommand.{BaseCommand}
 use Rattle.scmi_codec.specs.declared.base_command.BaseCommand.TheVariants as base
 use Rattle.scmi_codec.specs.declared.power_command.PowerCommand.{PowerCommand}
-use Rattle.scmi_codec.specs.declared.power_command.PowerCommand.TheVariants as power
 use Rattle.scmi_codec.specs.declared.command.Command as codec
 use Rattle.scmi_codec.specs.declared.command.Command.TheVariants.{Base, Power, Clock}
 use Rattle.scmi_codec.specs.declared.frame.Frame.{Frame}
@@ -21,7 +20,9 @@ use Rattle.scmi_codec.specs.declared.frame.Frame.TheVariants.{Good, Malformed}
 use Rattle.scmi_plan.specs.Board.{Board}
 use Rattle.scmi_base.specs.BaseReply.{base_reply, no_agent}
 use Rattle.scmi_plan.specs.declared.scope.Scope.{Scope}
-use Rattle.scmi_power.specs.PowerTable.{set_later}
+use Rattle.scmi_power.specs.PowerReply.{PowerView, power_reply}
+use Rattle.scmi_power.specs.PowerTable.{notification, set_later}
+use Rattle.scmi_power.proofs.PowerLaws.{power_laws}
 use Rattle.scmi_clock.specs.ClockTable.{rate_later}
 use Rattle.scmi_core.specs.declared.event.Event.{Event}
 use Rattle.scmi_core.specs.declared.event.Event.TheVariants.{Command}
@@ -37,7 +38,7 @@ use Rattle.scmi_core.specs.declared.outboxes.TheConstants.{OUTBOX_ROOM}
 use Rattle.scmi_codec.specs.declared.message.Message.{Message}
 use Rattle.scmi_core.specs.ReadCommand.{command_on}
 use Rattle.scmi_core.specs.Reply.{fits_channel, reply_words}
-use Rattle.scmi_core.specs.Situation.{Situation}
+use Rattle.scmi_core.specs.Situation.{Situation, power_view}
 use Rattle.scmi_core.specs.Subscriptions.{subscription}
 use Rattle.scmi_core.specs.Value.{Change, Enabled, Rate, State, Thing, change_now, completion, value_in}
 use Rattle.scmi_core.proofs.Causes.{asked-own}
@@ -126,21 +127,22 @@ module _ (board : Board) (h : List Event) (a : ℕ) (header : HeaderFields) wher
       absurd (other (eqb-true a board.trusted is))
 
   power-silent : (b d : ℕ) → a ≢ b → (c : PowerCommand)
+      → begins_with_success (power_reply board (power_view board a (situation_of board a h)) c) ≡ true
       → subscription b d (success (Power c)) ≡ None
-  power-silent b d differ power.Version = refl
-  power-silent b d differ power.Attributes = refl
-  power-silent b d differ (power.MessageAttributes message) = refl
-  power-silent b d differ (power.DomainAttributes domain) = refl
-  power-silent b d differ (power.Set flags domain state) = refl
-  power-silent b d differ (power.Get domain) = refl
-  power-silent b d differ (power.Notify domain enable) =
-      ap (λ own. if own && domain == d then Some (bit_0 enable) else None) (ne_eqb a b differ)
+  power-silent b d differ c ok = by (notification b d a c) refl where
+    v : PowerView
+    v = power_view board a (situation_of board a h)
+
+    by : (o : Option Bool) → notification b d a c ≡ o → o ≡ None
+    by None is = refl
+    by (Some on) is =
+        absurd (differ (eqb-true a b (power_laws.told board v c b d a on ok is).0))
 
   subscription-silent : (b d : ℕ) → a ≢ board.trusted → a ≢ b → (c : codec.Command)
       → succeeds (Ok c) ≡ true → subscription b d (success c) ≡ None
   unfolding reply_words
   subscription-silent b d other differ (Base c) ok = base-silent b d other c ok
-  subscription-silent b d other differ (Power c) ok = power-silent b d differ c
+  subscription-silent b d other differ (Power c) ok = power-silent b d differ c ok
   subscription-silent b d other differ (Clock c) ok = refl
 
   change-own : (c : codec.Command) (change : Change) → succeeds (Ok c) ≡ true

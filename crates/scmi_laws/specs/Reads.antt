@@ -7,10 +7,10 @@ use Rattle.scmi_codec.specs.declared.frame.Frame.TheVariants.{Good, Malformed}
 use Rattle.scmi_codec.specs.declared.command.Command.TheVariants.{Base, Power, Clock}
 use Rattle.scmi_codec.specs.declared.command.Command as codec
 use Rattle.scmi_codec.specs.declared.base_command.BaseCommand.TheVariants as base
-use Rattle.scmi_codec.specs.declared.power_command.PowerCommand.TheVariants as power
-use Rattle.scmi_codec.specs.declared.clock_command.ClockCommand.TheVariants as clock
 use Rattle.scmi_plan.specs.Board.{Board}
 use Rattle.scmi_plan.specs.declared.scope.Scope.{Scope}
+use Rattle.scmi_power.specs.PowerProtocol as power
+use Rattle.scmi_clock.specs.ClockProtocol as clock
 use Rattle.scmi_core.specs.ReadCommand.{command_on}
 use Rattle.scmi_core.specs.declared.event.Event.{Event}
 use Rattle.scmi_core.specs.Agents.{frame_from}
@@ -28,11 +28,9 @@ abbrev pub is_read : codec.Command → Bool
 is_read (Base (base.Permit agent device flags)) = false
 is_read (Base (base.PermitProtocol agent device protocol flags)) = false
 is_read (Base (base.ResetAgent agent flags)) = false
-is_read (Power (power.Set flags domain state)) = false
-is_read (Power (power.Notify domain enable)) = false
-is_read (Clock (clock.SetRate flags clock rate)) = false
-is_read (Clock (clock.Config clock attributes)) = false
-is_read _ = true
+is_read (Base c) = true
+is_read (Power c) = power.only_reads c
+is_read (Clock c) = clock.only_reads c
 
 -- a success does nothing: it changes no value, leaves no set pending, and says nothing of what any
 -- agent may do or is notified of

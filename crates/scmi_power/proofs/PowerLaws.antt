@@ -1,6 +1,7 @@
 -- The power domain protocol keeps the laws of a protocol.
-use Rattle.std.proofs.Common.{◌≡◌, ℕ, ◌≤◌, ◌==◌, ◌&&◌, ◌||◌, Bool, true, false, not, List, [], ◌∷◌, length, drop, Option, Some, None, option_map, unwrap_or, refl, ap, subst, arith, if◌then◌else◌}
+use Rattle.std.proofs.Common.{rules, ◌≡◌, ℕ, ◌≤◌, ◌==◌, ◌&&◌, ◌||◌, Bool, true, false, not, List, [], ◌∷◌, length, drop, Option, Some, None, option_map, unwrap_or, refl, sym, ap, ◌∙◌, subst, arith, if◌then◌else◌}
 use Rattle.std.specs.Option.{option_or}
+use Rattle.std.proofs.lemmas.Bool.{eq-eqb}
 use Rattle.scmi_codec.specs.Name.{name_words}
 use Rattle.scmi_codec.specs.Payload.{begins_with_success}
 use Rattle.scmi_codec.specs.Reply.{Check, bit_0, other_bits, reply_unless}
@@ -8,12 +9,13 @@ use Rattle.scmi_codec.specs.declared.power_command.PowerCommand.{PowerCommand}
 use Rattle.scmi_codec.specs.declared.power_command.PowerCommand.TheVariants as power
 use Rattle.scmi_codec.specs.declared.status.Status.TheVariants.{NotFound, InvalidParameters, NotSupported, Denied, Busy}
 use Rattle.scmi_plan.specs.Board.{Board, IsChannel, domain_at, is_absent, is_kept}
+use Rattle.scmi_plan.specs.declared.agent_channel.AgentChannel.{AgentChannel}
 use Rattle.scmi_plan.specs.declared.effect.Effect.{Effect}
 use Rattle.scmi_plan.specs.declared.resource.Resource.TheVariants as resource
 use Rattle.scmi_base.specs.Protocol.{HasResource, IsProtocol, Succeeds, change_wanted, resource_changed}
-use Rattle.scmi_base.proofs.CheckedReplies.{by_checks, checked, found, may_alone, not_forbidden, passed, room_of, set-allowed}
-use Rattle.scmi_power.specs.PowerProtocol.{may_in, power_protocol, state_effect, switches_off}
-use Rattle.scmi_power.specs.PowerReply.{PowerView, attributes, has_kind, has_notifications, is_state, may_set, no_domain, power_reply}
+use Rattle.scmi_base.proofs.CheckedReplies.{by_checks, checked, found, free_of, may_alone, no_room, not_forbidden, passed, room_of, set-allowed}
+use Rattle.scmi_power.specs.PowerProtocol.{busy_in, may_in, only_reads, power_protocol, state_effect, switches_off}
+use Rattle.scmi_power.specs.PowerReply.{PowerView, attributes, has_kind, has_notifications, is_state, may_set, no_domain, power_reply, set_reply}
 use Rattle.scmi_power.specs.PowerTable.{notification, set_later, set_now}
 
 -- the checks of a set
@@ -48,16 +50,40 @@ within board v (power.Notify d enable) law =
     ∷ [])
     (0 ∷ []) (omega (arith, eight))
 
+-- what is so of a command that only reads
+record Reads (c : PowerCommand) : Type 0 where
+  pub only : only_reads c ≡ true
+  pub now : set_now c ≡ None
+  pub later : set_later c ≡ None
+  pub request : (a d caller : ℕ) → notification a d caller c ≡ None
+
+-- a command is a set, or a request for notifications, or it only reads
+for_kinds : (P : PowerCommand → Type 0) → ((flags d state : ℕ) → P (power.Set flags d state))
+    → ((d enable : ℕ) → P (power.Notify d enable))
+    → ((c : PowerCommand) → Reads c → P c) → (c : PowerCommand) → P c
+for_kinds P set notify reads c = by c where
+  plain : {c : PowerCommand} → only_reads c ≡ true → set_now c ≡ None → set_later c ≡ None
+      → ((a d caller : ℕ) → notification a d caller c ≡ None) → Reads c
+  plain only now later request =
+      record { only = only; now = now; later = later; request = request }
+
+  by : (c : PowerCommand) → P c
+  by power.Version = reads power.Version (plain refl refl refl (λ a d caller. refl))
+  by power.Attributes = reads power.Attributes (plain refl refl refl (λ a d caller. refl))
+  by (power.MessageAttributes message) =
+      reads (power.MessageAttributes message) (plain refl refl refl (λ a d caller. refl))
+  by (power.DomainAttributes d) =
+      reads (power.DomainAttributes d) (plain refl refl refl (λ a d caller. refl))
+  by (power.Get d) = reads (power.Get d) (plain refl refl refl (λ a d caller. refl))
+  by (power.Notify d enable) = notify d enable
+  by (power.Set flags d state) = set flags d state
+
 -- a command is a set, or it changes nothing
-for_sets : (P : PowerCommand → Type 0) → ((flags d state : ℕ) → P (power.Set flags d state))
+pub for_sets : (P : PowerCommand → Type 0) → ((flags d state : ℕ) → P (power.Set flags d state))
     → ((c : PowerCommand) → set_now c ≡ None → set_later c ≡ None → P c) → (c : PowerCommand) → P c
-for_sets P set none power.Version = none power.Version refl refl
-for_sets P set none power.Attributes = none power.Attributes refl refl
-for_sets P set none (power.MessageAttributes message) = none (power.MessageAttributes message) refl refl
-for_sets P set none (power.DomainAttributes d) = none (power.DomainAttributes d) refl refl
-for_sets P set none (power.Get d) = none (power.Get d) refl refl
-for_sets P set none (power.Notify d enable) = none (power.Notify d enable) refl refl
-for_sets P set none (power.Set flags d state) = set flags d state
+for_sets P set none =
+    for_kinds P set (λ d enable. none (power.Notify d enable) refl refl)
+    (λ c reads. none c reads.now reads.later)
 
 none_now : (now later : Option (ℕ × ℕ)) (e : Effect) → now ≡ None → later ≡ None
     → option_or (option_map state_effect now) (option_map state_effect later) ≡ Some e → {A : Type 0} → A
@@ -79,6 +105,17 @@ wanted_is false set e is = ap (λ o. unwrap_or o e) is
 now_is : (b : Bool) (set : ℕ × ℕ) (e : Effect) → option_map state_effect (if b then None else Some set) ≡ Some e → state_effect set ≡ e
 now_is true set e is = absurd (cc)
 now_is false set e is = ap (λ o. unwrap_or o e) is
+
+at_once : (b : Bool) (set : ℕ × ℕ) (e : Effect)
+    → option_map state_effect (if b then None else Some set) ≡ Some e → b ≡ false
+at_once true set e is = absurd (cc)
+at_once false set e is = refl
+
+-- a set is made now or later
+one_is : (b : Bool) (set : ℕ × ℕ) → option_map state_effect (if b then None else Some set) ≡ None
+    → option_map state_effect (if b then Some set else None) ≡ None → {A : Type 0} → A
+one_is true set now later = absurd (cc)
+one_is false set now later = absurd (cc)
 
 later_is : (b : Bool) (set : ℕ × ℕ) (e : Effect) → option_map state_effect (if b then Some set else None) ≡ Some e → b ≡ true
 later_is true set e is = refl
@@ -151,16 +188,18 @@ module _ (board : Board) where
     told : (c : PowerCommand) (a d caller : ℕ) (on : Bool) → Succeeds power_protocol board v c → notification a d caller c ≡ Some on
         → ((caller == a) ≡ true) × (v.channel.one_way ≡ false)
     unfolding power_reply
-    told power.Version a d caller on ok e = absurd (cc)
-    told power.Attributes a d caller on ok e = absurd (cc)
-    told (power.MessageAttributes message) a d caller on ok e = absurd (cc)
-    told (power.DomainAttributes domain) a d caller on ok e = absurd (cc)
-    told (power.Get domain) a d caller on ok e = absurd (cc)
-    told (power.Set flags domain state) a d caller on ok e = absurd (cc)
-    told (power.Notify domain enable) a d caller on ok e = (own (caller == a) (domain == d) e, notify-sent _ _ _ v.channel.one_way _ ok) where
-      own : (x y : Bool) → (if x && y then Some (bit_0 enable) else None) ≡ Some on → x ≡ true
-      own true y is = refl
-      own false y is = absurd (cc)
+    told c a d caller on =
+        for_kinds
+        (λ c. begins_with_success (power_reply board v c) ≡ true
+        → notification a d caller c ≡ Some on → ((caller == a) ≡ true) × (v.channel.one_way ≡ false))
+        (λ flags domain state ok e. absurd (let no : None ≡ Some on = e in cc))
+        (λ domain enable ok e.
+        (own (bit_0 enable) (caller == a) (domain == d) e, notify-sent _ _ _ v.channel.one_way _ ok))
+        (λ c reads ok e. absurd (let no = sym (reads.request a d caller) ∙ e in cc)) c
+      where
+        own : (to x y : Bool) → (if x && y then Some to else None) ≡ Some on → x ≡ true
+        own to true y is = refl
+        own to false y is = absurd (cc)
 
     made : (c : PowerCommand) (e : Effect) → Succeeds power_protocol board v c → option_map state_effect (set_now c) ≡ Some e → power_reply board v c ≡ 0 ∷ []
     unfolding power_reply
@@ -177,6 +216,69 @@ module _ (board : Board) where
         (found (length board.domains) d (is_absent board (resource.Domain d)) (drop 1 (set_checks board v flags d state)) ok))
         (λ c now later ok is. none_of (set_now c) e now is) c
 
+    -- a set at once is answered the same where what its checks read of its caller is the same
+    same : (w : PowerView) (flags d state : ℕ) → bit_0 flags ≡ false → v.channel ≡ w.channel
+        → v.may d ≡ w.may d → v.busy d ≡ w.busy d
+        → power_reply board v (power.Set flags d state) ≡ power_reply board w (power.Set flags d state)
+    unfolding power_reply
+    same w flags d state now channel may busy =
+        ap (λ (c : AgentChannel). set_reply board c (may_set board (v.may d) d state) (v.busy d) v.room flags d state) channel
+        ∙ ap (λ (b : Bool). set_reply board w.channel (may_set board b d state) (v.busy d) v.room flags d state) may
+        ∙ ap (λ (b : Bool). set_reply board w.channel (may_set board (w.may d) d state) b v.room flags d state) busy
+        ∙ by (no_room (bit_0 flags) v.room now ∙ sym (no_room (bit_0 flags) w.room now))
+      where
+        by : (bit_0 flags && not v.room) ≡ (bit_0 flags && not w.room)
+            → set_reply board w.channel (may_set board (w.may d) d state) (w.busy d) v.room flags d state ≡ set_reply board w.channel (may_set board (w.may d) d state) (w.busy d) w.room flags d state
+        by is = search (rules, is)
+
+    still : (w : PowerView) (c : PowerCommand) (e : Effect) → Succeeds power_protocol board v c
+        → option_map state_effect (set_now c) ≡ Some e → v.channel ≡ w.channel
+        → may_in v (resource_changed e) ≡ may_in w (resource_changed e)
+        → (busy_in v (resource_changed e) ≡ false → busy_in w (resource_changed e) ≡ false)
+        → power_reply board v c ≡ power_reply board w c
+    unfolding power_reply
+    still w c e ok is channel may busy = by c ok is where
+      same-of : (flags d state : ℕ) → Succeeds power_protocol board v (power.Set flags d state)
+          → option_map state_effect (set_now (power.Set flags d state)) ≡ Some e
+          → power_reply board v (power.Set flags d state) ≡ power_reply board w (power.Set flags d state)
+      same-of flags d state ok is =
+          let own = sym (now_is (bit_0 flags) (d, state) e is) in
+          let free : v.busy d ≡ false = free_of _ _ _ _ (v.busy d) _ ok in
+          let left : v.busy d ≡ false → w.busy d ≡ false
+          = subst (λ x. busy_in v (resource_changed x) ≡ false → busy_in w (resource_changed x) ≡ false) own busy in
+          same w flags d state (at_once (bit_0 flags) (d, state) e is) channel
+          (subst (λ x. may_in v (resource_changed x) ≡ may_in w (resource_changed x)) own may)
+          (free ∙ sym (left free))
+
+      by : (c : PowerCommand) → Succeeds power_protocol board v c → option_map state_effect (set_now c) ≡ Some e
+          → power_reply board v c ≡ power_reply board w c
+      by = for_sets (λ c. Succeeds power_protocol board v c → option_map state_effect (set_now c) ≡ Some e
+          → power_reply board v c ≡ power_reply board w c) same-of (λ c now later ok is. none_of (set_now c) e now is)
+
+  quiet : (c : PowerCommand) → only_reads c ≡ true
+      → (option_map state_effect (set_now c) ≡ None) × (option_map state_effect (set_later c) ≡ None)
+      × ((a d caller : ℕ) → notification a d caller c ≡ None)
+  quiet =
+      for_kinds
+      (λ c. only_reads c ≡ true → (option_map state_effect (set_now c) ≡ None)
+      × (option_map state_effect (set_later c) ≡ None)
+      × ((a d caller : ℕ) → notification a d caller c ≡ None))
+      (λ flags d state only. absurd (let no : false ≡ true = only in cc))
+      (λ d enable only. absurd (let no : false ≡ true = only in cc))
+      (λ c reads only.
+      (ap (option_map state_effect) reads.now, ap (option_map state_effect) reads.later, reads.request))
+
+  acts : (c : PowerCommand) (a : ℕ) → option_map state_effect (set_now c) ≡ None
+      → option_map state_effect (set_later c) ≡ None → ((d : ℕ) → notification a d a c ≡ None)
+      → only_reads c ≡ true
+  acts c a =
+      for_kinds
+      (λ c. option_map state_effect (set_now c) ≡ None → option_map state_effect (set_later c) ≡ None
+      → ((d : ℕ) → notification a d a c ≡ None) → only_reads c ≡ true)
+      (λ flags d state now later none. one_is (bit_0 flags) (d, state) now later)
+      (λ d enable now later none. absurd (cc (none d, eq-eqb a a refl, eq-eqb d d refl)))
+      (λ c reads now later none. reads.only) c
+
 pub power_laws : IsProtocol power_protocol
 power_laws = record {
   within = within;
@@ -189,4 +291,7 @@ power_laws = record {
   told = told;
   made = made;
   known = known;
+  still = still;
+  quiet = quiet;
+  acts = acts;
 }

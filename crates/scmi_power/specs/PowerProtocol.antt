@@ -1,6 +1,7 @@
 -- The power domain protocol as the relation that each protocol is.
-use Rattle.std.specs.Prelude.{ℕ, ◌==◌, Bool, false, option_map}
+use Rattle.std.specs.Prelude.{ℕ, ◌==◌, Bool, true, false, option_map}
 use Rattle.scmi_codec.specs.declared.power_command.PowerCommand.{PowerCommand}
+use Rattle.scmi_codec.specs.declared.power_command.PowerCommand.TheVariants as power
 use Rattle.scmi_plan.specs.declared.effect.Effect.{Effect}
 use Rattle.scmi_plan.specs.declared.effect.Effect.TheVariants as effect
 use Rattle.scmi_plan.specs.declared.resource.Resource.{Resource}
@@ -18,6 +19,17 @@ abbrev pub may_in : PowerView → Resource → Bool
 may_in v (resource.Domain d) = v.may d
 may_in v (resource.Clock c) = false
 
+-- whether a set of a domain is pending
+abbrev pub busy_in : PowerView → Resource → Bool
+busy_in v (resource.Domain d) = v.busy d
+busy_in v (resource.Clock c) = false
+
+-- whether a command only reads: it sets no state, and asks for no notifications
+abbrev pub only_reads : PowerCommand → Bool
+only_reads (power.Set flags d state) = false
+only_reads (power.Notify d enable) = false
+only_reads _ = true
+
 -- whether a change switches a domain off
 abbrev pub switches_off : Effect → Bool
 switches_off (effect.State d state) = state == state_off
@@ -26,11 +38,13 @@ switches_off _ = false
 abbrev pub power_protocol : Protocol PowerView PowerCommand
 power_protocol = record {
   may = may_in;
+  busy = busy_in;
   room = λ v. v.room;
   channel = λ v. v.channel;
   reply = power_reply;
   now = λ board c. option_map state_effect (set_now c);
   later = λ board c. option_map state_effect (set_later c);
+  only_reads = only_reads;
   request = notification;
   switches_off = switches_off;
 }
