@@ -1,7 +1,7 @@
 //! Why a line with names encodes no step, in words.
 
 use scmi_codec::{BASE_MESSAGES, CLOCK_MESSAGES, POWER_MESSAGES, Part};
-use scmi_explain::nearest;
+use scmi_explain::{HardwareStatuses, nearest};
 use scmi_live::{Unknown, flags_of};
 use scmi_plan::RawPlan;
 use std::alloc::Global;
@@ -50,6 +50,11 @@ impl fmt::Display for UnknownText<'_, '_> {
                 write_part(f, self.board, number, item, part)?;
                 write_flags(f, part)
             }
+            Unknown::Status(item) => write!(
+                f,
+                "field 3: \"{}\" is not {HardwareStatuses}",
+                item_text(item)
+            ),
             Unknown::Unit(number, item) => write!(
                 f,
                 "field {number}: a unit follows its number without a space, as in 600{}",

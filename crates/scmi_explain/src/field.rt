@@ -5,7 +5,7 @@ use crate::plan_fault::Kind;
 use crate::rows::count_of;
 use crate::wrong::Wrong;
 use scmi_board::{byte, word};
-use scmi_codec::{BASE_PROTOCOL, CLOCK_PROTOCOL, POWER_PROTOCOL, is_channel_size};
+use scmi_codec::{BASE_PROTOCOL, CLOCK_PROTOCOL, Fault, POWER_PROTOCOL, is_channel_size};
 use scmi_plan::{DEVICES, PENDING_SETS, PROTOCOLS};
 use std::str::from_utf8;
 
@@ -38,8 +38,10 @@ pub(crate) enum Field {
     Protocols,
     /// This word.
     Word(&'static str),
-    /// The first of these words, in place of which another form has the second.
-    Either(&'static str, &'static str),
+    /// The first of these words, in place of which other forms have the others.
+    Either(&'static [&'static str]),
+    /// A status by which hardware refuses a change.
+    Status,
 }
 
 impl Field {
@@ -54,9 +56,8 @@ impl Field {
             Field::Protocols => protocols_wrong(item),
             Field::Number(width) => NumberFault::of(item, width).map(Wrong::Number),
             Field::Word(text) => (item != text.as_bytes()).then_some(Wrong::NotWord(text)),
-            Field::Either(text, other) => {
-                (item != text.as_bytes()).then_some(Wrong::NotEither(text, other))
-            }
+            Field::Either(words) => (!is_first(words, item)).then_some(Wrong::NotEither(words)),
+            Field::Status => Fault::of_name(item).is_none().then_some(Wrong::NotStatus),
             of_value => match word(item) {
                 Some(value) => of_value.value_wrong(value, board),
                 None => NumberFault::of(item, Width::Bits32).map(Wrong::Number),
@@ -75,6 +76,11 @@ impl Field {
             _ => None,
         }
     }
+}
+
+/// Whether an item is the first of these words.
+fn is_first(words: &[&str], item: &[u8]) -> bool {
+    matches!(words, [first, ..] if first.as_bytes() == item)
 }
 
 fn is_switch(item: &[u8]) -> bool {

@@ -1,5 +1,6 @@
 //! The words that lines begin with.
 
+use crate::alternatives::Alternatives;
 use crate::forms::Form;
 use std::alloc::{AllocError, Global};
 use std::fmt;
@@ -53,19 +54,12 @@ impl FirstWords {
 
 impl fmt::Display for FirstWords {
     fn fmt<W: fmt::Write>(&self, f: &mut fmt::Formatter<W>) -> fmt::Result {
-        let mut held = "";
-        let mut between = "";
+        let mut words = Alternatives::new("");
         for place in 0..self.count() {
-            let Some(word) = self.new_word(place) else {
-                continue;
-            };
-            if !held.is_empty() {
-                write!(f, "{between}{held}")?;
-                between = ", ";
+            if let Some(word) = self.new_word(place) {
+                words.add(f, word)?;
             }
-            held = word;
         }
-        let between = if between.is_empty() { "" } else { " or " };
-        write!(f, "{between}{held}")
+        words.end(f)
     }
 }

@@ -64,17 +64,17 @@ const ABSENT: &str = "absent domain|clock N";
 /// The lines behind these rows, in the modes that take them. Of the forms of a line the longest is
 /// first: its fault says which word may come next, where a shorter one says that none may.
 pub(crate) const LINES_BEHIND: [Form; 12] = forms![
-    "channel" [Field::Agent, Field::Bytes, Field::Either("one-way", "pending"),
+    "channel" [Field::Agent, Field::Bytes, Field::Either(&["one-way", "pending"]),
         Field::Word("pending"), Field::Share] false CHANNEL;
     "channel" [Field::Agent, Field::Bytes, Field::Word("pending"), Field::Share] false CHANNEL;
     "channel" [Field::Agent, Field::Bytes, Field::Word("one-way")] false CHANNEL;
     "channel" [Field::Agent, Field::Bytes] false CHANNEL;
-    "keep" [Field::Either("domain", "clock"), Field::Numbered(Kind::Domains)] false KEEP;
-    "keep" [Field::Either("clock", "domain"), Field::Numbered(Kind::Clocks)] false KEEP;
+    "keep" [Field::Either(&["domain", "clock"]), Field::Numbered(Kind::Domains)] false KEEP;
+    "keep" [Field::Either(&["clock", "domain"]), Field::Numbered(Kind::Clocks)] false KEEP;
     "deny" [Field::Agent, Field::Numbered(Kind::Devices), Field::Protocol] false DENY;
     "deny" [Field::Agent, Field::Numbered(Kind::Devices)] false DENY;
-    "absent" [Field::Either("domain", "clock"), Field::Numbered(Kind::Domains)] false ABSENT;
-    "absent" [Field::Either("clock", "domain"), Field::Numbered(Kind::Clocks)] false ABSENT;
+    "absent" [Field::Either(&["domain", "clock"]), Field::Numbered(Kind::Domains)] false ABSENT;
+    "absent" [Field::Either(&["clock", "domain"]), Field::Numbered(Kind::Clocks)] false ABSENT;
     "free" [Field::Word("clock"), Field::Numbered(Kind::Clocks)] false "free clock N";
     "protocols" [Field::Protocols] false "protocols P,P,..";
 ];
@@ -95,9 +95,17 @@ pub(crate) const STEPS: [Form; 11] = forms![
 ];
 
 /// Its lines in the modes `hardware` alone.
-pub(crate) const HARDWARE_STEPS: [Form; 3] = forms![
+pub(crate) const HARDWARE_STEPS: [Form; 8] = forms![
     "fail" [Field::Agent, BYTE, BYTE] true "fail A P M W..";
-    "advance" [Field::Word("failed")] false "advance failed";
+    "refuse" [Field::Agent, Field::Status, BYTE, BYTE] true "refuse A STATUS P M W..";
+    "advance" [Field::Either(&["failed", "refused"])] false "advance failed";
+    "advance" [Field::Either(&["refused", "failed"]), Field::Status] false
+        "advance refused STATUS";
+    "report" [Field::Either(&["state", "rate", "enabled"]), WORD, WORD] false "report state D W";
+    "report" [Field::Either(&["rate", "state", "enabled"]), WORD, WORD, WORD] false
+        "report rate C LOW HIGH";
+    "report" [Field::Either(&["enabled", "state", "rate"]), WORD, WORD] false
+        "report enabled C B";
     "restart" [Field::Agent] false "restart A";
 ];
 

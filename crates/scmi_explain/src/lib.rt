@@ -7,6 +7,7 @@
 //! are for the run the reader and the writer that they wrap.
 #![tactic(auto)]
 
+mod alternatives;
 mod area;
 mod board;
 mod causes;
@@ -37,6 +38,7 @@ mod text;
 mod what;
 mod wrong;
 
+pub use alternatives::HardwareStatuses;
 pub use causes::explain;
 pub use expected::Expected;
 pub use explanation::Explanation;

@@ -1,5 +1,6 @@
 //! What is wrong with an item.
 
+use crate::alternatives::{Alternatives, HardwareStatuses};
 use crate::number_fault::NumberFault;
 use crate::plan_fault::{Kind, fmt_count};
 use std::fmt;
@@ -43,8 +44,10 @@ pub enum Wrong {
     PlaceTwice,
     /// It is not this word.
     NotWord(&'static str),
-    /// It is neither of these words.
-    NotEither(&'static str, &'static str),
+    /// It is none of these words.
+    NotEither(&'static [&'static str]),
+    /// It is no status by which hardware refuses a change.
+    NotStatus,
 }
 
 impl fmt::Display for Wrong {
@@ -59,7 +62,15 @@ impl fmt::Display for Wrong {
                 fmt_count(f, *kind, *count)
             }
             Wrong::NotWord(word) => write!(f, "is not \"{word}\""),
-            Wrong::NotEither(word, other) => write!(f, "is not \"{word}\" or \"{other}\""),
+            Wrong::NotEither(words) => {
+                f.write_str("is not ")?;
+                let mut alternatives = Alternatives::new("\"");
+                for word in *words {
+                    alternatives.add(f, word)?;
+                }
+                alternatives.end(f)
+            }
+            Wrong::NotStatus => write!(f, "is not {HardwareStatuses}"),
             plain => f.write_str(plain.text()),
         }
     }

@@ -8,7 +8,7 @@ use crate::rate::zeros_of;
 use crate::reports::{ENABLED, RATE, REPORT, STATE};
 use crate::word::{is_flags, words_of_item};
 use scmi_board::word;
-use scmi_codec::{CLOCK_PROTOCOL, POWER_PROTOCOL, PROTOCOLS, Part, listed_row, rows_of};
+use scmi_codec::{CLOCK_PROTOCOL, Fault, POWER_PROTOCOL, PROTOCOLS, Part, listed_row, rows_of};
 use scmi_decode::protocol_name;
 use scmi_plan::RawPlan;
 use std::alloc::Global;
@@ -28,6 +28,8 @@ pub enum Unknown<'a> {
     Nameless(&'a [u8]),
     /// This item, of this number in the line, does not encode this part of the message.
     Part(usize, &'a [u8], Part),
+    /// This item is no status by which hardware refuses a change.
+    Status(&'a [u8]),
     /// This item, of this number in the line, is a unit without its number.
     Unit(usize, &'a [u8]),
     /// The message, of this name, has these parts, and there are more or fewer items.
@@ -62,6 +64,9 @@ pub fn unknown_in<'a>(
             match form {
                 Form::Do | Form::Call | Form::Fail => unknown_command(board, 3, rest),
                 Form::Refuse => match rest {
+                    [status, ..] if Fault::of_name(*status).is_none() => {
+                        Some(Unknown::Status(*status))
+                    }
                     [_, command @ ..] => unknown_command(board, 4, command),
                     [] => None,
                 },
