@@ -7,10 +7,9 @@ use scmi_check::{CheckError, Names, PROTOCOLS, Placed, Record, read_record};
 use scmi_codec::{Answer, Frame, Header, Message, payload_of};
 use scmi_core::Core;
 use scmi_judge::Entry;
-use scmi_link::Collected;
+use scmi_link::{Collected, Served};
 use scmi_live::in_hertz;
 use scmi_plan::{Plan, RawPlan};
-use scmi_script::Served;
 use scmi_text::{AgentStep, Call, PlatformStep, Step, StepLine};
 use std::alloc::{AllocError, Global};
 

@@ -11,8 +11,8 @@ use Rattle.scmi_core.specs.declared.event.Event.{Event}
 use Rattle.scmi_core.specs.declared.event.Event.TheVariants as event
 use Rattle.scmi_plan.specs.Agent.{IsAgent}
 use Rattle.scmi_plan.specs.Board.{Board}
-use Rattle.scmi_script.specs.declared.script.Script.{Script}
-use Rattle.scmi_script.specs.Scripts.{orders_of}
+use Rattle.scmi_link.specs.declared.script.Script.{Script}
+use Rattle.scmi_link.specs.Scripts.{orders_of}
 use Rattle.scmi_text.specs.Step.{IsStepOf}
 use Rattle.scmi_text.specs.declared.step.Step.{Step}
 use Rattle.scmi_text.specs.declared.step.Step.TheVariants as step

@@ -6,8 +6,8 @@ use Rattle.scmi_plan.specs.Board.{Board}
 use Rattle.scmi_codec.specs.declared.frame.Frame.TheVariants.{Good, Malformed}
 use Rattle.scmi_chart.specs.declared.mark.Outcome.{Outcome}
 use Rattle.scmi_link.specs.declared.collected.Collected.TheVariants as collected
-use Rattle.scmi_script.specs.declared.served.Served.TheVariants as served
-use Rattle.scmi_script.specs.declared.flushed.Flushed.TheVariants as flushed
+use Rattle.scmi_link.specs.declared.served.Served.TheVariants as served
+use Rattle.scmi_link.specs.declared.flushed.Flushed.TheVariants as flushed
 use Rattle.scmi_text.specs.declared.step.Step.{Step}
 use Rattle.scmi_text.specs.declared.step.Step.TheVariants as step
 use Rattle.scmi_text.specs.declared.step_line.StepLine.{StepLine}

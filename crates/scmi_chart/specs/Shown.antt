@@ -5,7 +5,7 @@ use Rattle.scmi_link.specs.declared.collected.Collected.{Collected}
 use Rattle.scmi_text.specs.declared.step.Step.{Step}
 use Rattle.scmi_text.specs.declared.step_line.StepLine.{StepLine}
 use Rattle.scmi_chart.specs.declared.chart.Lifeline.{Lifeline}
-use Rattle.scmi_chart.specs.declared.parties.TheConstants.{LANES}
+use Rattle.scmi_chart.specs.declared.laters.TheConstants.{LANES}
 use Rattle.scmi_chart.specs.Signs.{Sign, lane, signs_of, exchange_signs, collected_signs}
 use Rattle.scmi_chart.specs.Service.{line_agent, if_got, served_by, is_served, served_so_far, sets_later, laters_after, is_later}
 

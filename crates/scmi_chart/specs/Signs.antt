@@ -13,11 +13,11 @@ use Rattle.scmi_link.specs.declared.collected.Collected.{Collected}
 use Rattle.scmi_link.specs.declared.collected.Collected.TheVariants as collected
 use Rattle.scmi_link.specs.declared.closing.Closing.{Closing}
 use Rattle.scmi_link.specs.declared.close_error.CloseError.{CloseError}
-use Rattle.scmi_script.specs.declared.served.Served.{Served}
-use Rattle.scmi_script.specs.declared.served.Served.TheVariants as served
-use Rattle.scmi_script.specs.declared.flushed.Flushed.{Flushed}
-use Rattle.scmi_script.specs.declared.flushed.Flushed.TheVariants as flushed
-use Rattle.scmi_script.specs.declared.shut_error.ShutError.{ShutError}
+use Rattle.scmi_link.specs.declared.served.Served.{Served}
+use Rattle.scmi_link.specs.declared.served.Served.TheVariants as served
+use Rattle.scmi_link.specs.declared.flushed.Flushed.{Flushed}
+use Rattle.scmi_link.specs.declared.flushed.Flushed.TheVariants as flushed
+use Rattle.scmi_link.specs.declared.shut_error.ShutError.{ShutError}
 use Rattle.scmi_text.specs.declared.step.Step.{Step}
 use Rattle.scmi_text.specs.declared.step.Step.TheVariants as step
 use Rattle.scmi_text.specs.declared.step.AgentStep.TheVariants as agent_step

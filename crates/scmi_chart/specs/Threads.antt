@@ -7,8 +7,8 @@ use Rattle.scmi_plan.specs.Board.{Board}
 use Rattle.scmi_board.specs.BoardText.{board_left}
 use Rattle.scmi_board.specs.Lines.{Line}
 use Rattle.scmi_core.specs.Legal.{IsLegal}
-use Rattle.scmi_script.specs.Scripts.{orders_of}
-use Rattle.scmi_script.specs.declared.script.Script.{Script}
+use Rattle.scmi_link.specs.Scripts.{orders_of}
+use Rattle.scmi_link.specs.declared.script.Script.{Script}
 use Rattle.scmi_ends.specs.Each.{AllFrom}
 use Rattle.scmi_text.specs.ScriptText.{scripts_of, with_line}
 use Rattle.scmi_text.specs.TextLines.{after_lines}

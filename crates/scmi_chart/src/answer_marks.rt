@@ -39,7 +39,7 @@ impl<'a> Recorder<'a> {
         ensures { OnOk result (self.new ≡ adds (answered_sign agent answer.now
             (outcome_of answer.now (get_or self.old.laters agent false)) ∷ []) self.old) }
     {
-        let outcome = outcome_of(answer, self.parties.is_later(agent));
+        let outcome = outcome_of(answer, self.laters.is_later(agent));
         let way = Way {
             agent,
             slot: self.parties.settle(agent).unwrap_or(slot),

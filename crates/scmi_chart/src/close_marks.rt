@@ -6,8 +6,7 @@ ghost use Rattle.scmi_chart.specs.Shown.{adds};
 use crate::board_names::agent_name;
 use crate::mark::{Mark, Side};
 use crate::recorder::Recorder;
-use scmi_link::{CloseError, Closing};
-use scmi_script::ShutError;
+use scmi_link::{CloseError, Closing, ShutError};
 use std::alloc::AllocError;
 
 impl<'a> Recorder<'a> {

@@ -34,7 +34,7 @@ impl<'a> Recorder<'a> {
         };
         let message = asked_arrow(self.alloc, self.board, way, step, token)?;
         self.marks.add(command_mark(message, token, is_executed))?;
-        self.parties.post(agent, sets_later(step));
+        self.laters.post(agent, sets_later(step));
         Ok(())
     }
 

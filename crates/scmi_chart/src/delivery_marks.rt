@@ -8,7 +8,7 @@ use crate::mark::{Mark, Side};
 use crate::recorder::Recorder;
 use crate::sign::posted_mark;
 use scmi_codec::Frame;
-use scmi_script::Flushed;
+use scmi_link::Flushed;
 use std::alloc::AllocError;
 
 impl<'a> Recorder<'a> {

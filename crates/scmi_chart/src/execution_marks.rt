@@ -6,7 +6,7 @@ ghost use Rattle.scmi_chart.specs.Shown.{serves};
 
 use crate::mark::{Mark, Side};
 use crate::recorder::Recorder;
-use scmi_script::Served;
+use scmi_link::Served;
 use std::alloc::AllocError;
 
 impl<'a> Recorder<'a> {

@@ -35,6 +35,7 @@ mod form;
 mod history;
 mod label;
 mod label_texts;
+mod laters;
 mod legend;
 mod level;
 mod levels;

@@ -5,6 +5,7 @@ ghost use Rattle.scmi_chart.specs.Signs.{sign_of};
 ghost use Rattle.scmi_chart.specs.Shown.{nothing_shown, shown_after, head_of, heads_from};
 
 use crate::chart::{Chart, Step as Row};
+use crate::laters::Laters;
 use crate::levels::Levels;
 use crate::lifelines::lifelines_of;
 use crate::marks::Marks;
@@ -23,6 +24,7 @@ pub struct Recorder<'a> {
     pub(crate) alloc: Global,
     pub(crate) board: &'a RawPlan,
     pub(crate) marks: Marks,
+    pub(crate) laters: Laters,
     pub(crate) parties: Parties,
     rows: Vec<Row>,
     pub(crate) levels: Levels,
@@ -37,7 +39,7 @@ impl<'a> Model for Recorder<'a> {
 
     ghost view = { λ r. record {
       signs = r.marks;
-      laters = r.parties;
+      laters = r.laters;
       board = asked_board r.board.now;
     } };
 }
@@ -51,6 +53,7 @@ impl<'a> Recorder<'a> {
             alloc,
             board,
             marks: Marks::new(alloc),
+            laters: Laters::new(alloc)?,
             parties: Parties::new(alloc, board.agents.len())?,
             rows: Vec::new(alloc),
             levels: Levels::new(alloc, core)?,

@@ -1,7 +1,7 @@
 //! The chart of a run of agents in threads.
 ghost use Rattle.std.specs.Prelude.{◌≡◌, IfOk, length};
 ghost use Rattle.std.specs.List.{All};
-ghost use Rattle.scmi_script.specs.Scripts.{AreScriptsOf};
+ghost use Rattle.scmi_link.specs.Scripts.{AreScriptsOf};
 ghost use Rattle.scmi_ends.specs.Shut.{ShowsClose};
 ghost use Rattle.scmi_plan.specs.RawPlan.{asked_board};
 ghost use Rattle.scmi_text.specs.Step.{IsStepOf};

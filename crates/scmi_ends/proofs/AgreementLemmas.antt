@@ -27,12 +27,12 @@ use Rattle.scmi_core.specs.Asked.{Asked}
 use Rattle.scmi_core.specs.Driven.{HappensOn, HasMade, IsCommandOf, IsEnd, asks}
 use Rattle.scmi_core.proofs.EffectsMade.{made-on}
 use Rattle.scmi_core.proofs.Laws.{frames_failed_own, frames_failed_other, answers_failed_own, answers_failed_other, advance_failed, frames_own, frames_other, answers_own, answers_other, IsQuiet, advance, reported, restarted, sent_to, frames_quiet, answers_quiet, delivered_kept, delivered_sent, delivered_other, as_many}
-use Rattle.scmi_script.specs.declared.served.Served.{Served}
-use Rattle.scmi_script.specs.declared.served.Served.TheVariants as served
-use Rattle.scmi_script.specs.declared.flushed.Flushed.{Flushed}
-use Rattle.scmi_script.specs.declared.flushed.Flushed.TheVariants as flushed
-use Rattle.scmi_script.specs.declared.shut_error.ShutError.{ShutError}
-use Rattle.scmi_script.specs.declared.shut_error.ShutError.TheVariants as shut
+use Rattle.scmi_link.specs.declared.served.Served.{Served}
+use Rattle.scmi_link.specs.declared.served.Served.TheVariants as served
+use Rattle.scmi_link.specs.declared.flushed.Flushed.{Flushed}
+use Rattle.scmi_link.specs.declared.flushed.Flushed.TheVariants as flushed
+use Rattle.scmi_link.specs.declared.shut_error.ShutError.{ShutError}
+use Rattle.scmi_link.specs.declared.shut_error.ShutError.TheVariants as shut
 use Rattle.scmi_ends.specs.Each.{AllFrom}
 use Rattle.scmi_ends.specs.Agreement.{ExecutesNoneAfter, StayShut, IsServed, IsDelivered, EndsAgree}
 use Rattle.scmi_ends.specs.Serve.{ServesOne}

@@ -9,9 +9,9 @@ use Rattle.scmi_link.specs.declared.closing.Closing.{Closing}
 use Rattle.scmi_link.specs.declared.close_error.CloseError.{CloseError}
 use Rattle.scmi_plan.specs.Board.{Board}
 use Rattle.scmi_core.specs.declared.event.Event.{Event}
-use Rattle.scmi_script.specs.declared.served.Served.{Served}
-use Rattle.scmi_script.specs.declared.flushed.Flushed.{Flushed}
-use Rattle.scmi_script.specs.declared.shut_error.ShutError.{ShutError}
+use Rattle.scmi_link.specs.declared.served.Served.{Served}
+use Rattle.scmi_link.specs.declared.flushed.Flushed.{Flushed}
+use Rattle.scmi_link.specs.declared.shut_error.ShutError.{ShutError}
 use Rattle.scmi_ends.specs.AgentView.{AgentView, IsOfLink}
 use Rattle.scmi_ends.specs.ControllerView.{ControllerView}
 use Rattle.scmi_core.specs.Asked.{Asked}

@@ -9,8 +9,8 @@ use Rattle.scmi_plan.specs.Board.{Board}
 use Rattle.scmi_core.specs.History.{outbox}
 use Rattle.scmi_core.specs.declared.event.Event.{Event}
 use Rattle.scmi_core.specs.declared.event.Event.TheVariants.{Sent}
-use Rattle.scmi_script.specs.declared.flushed.Flushed.{Flushed}
-use Rattle.scmi_script.specs.declared.flushed.Flushed.TheVariants as flushed
+use Rattle.scmi_link.specs.declared.flushed.Flushed.{Flushed}
+use Rattle.scmi_link.specs.declared.flushed.Flushed.TheVariants as flushed
 use Rattle.scmi_ends.specs.ControllerView.{ControllerView, caller_of}
 
 -- the first message of agent a's outbox is posted, by one post, where none was outstanding, and the

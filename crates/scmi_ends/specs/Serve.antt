@@ -7,8 +7,8 @@ use Rattle.scmi_plan.specs.Board.{Board}
 use Rattle.scmi_core.specs.History.{answer_to}
 use Rattle.scmi_core.specs.declared.event.Event.{Event}
 use Rattle.scmi_core.specs.declared.event.Event.TheVariants.{Command}
-use Rattle.scmi_script.specs.declared.served.Served.{Served}
-use Rattle.scmi_script.specs.declared.served.Served.TheVariants as served
+use Rattle.scmi_link.specs.declared.served.Served.{Served}
+use Rattle.scmi_link.specs.declared.served.Served.TheVariants as served
 use Rattle.scmi_ends.specs.ControllerView.{ControllerView, callee_of}
 
 -- one `take` gave this frame, which is then in the history as a command of agent a, and answered as the history says

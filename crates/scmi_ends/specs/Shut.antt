@@ -8,8 +8,8 @@ use Rattle.scmi_link.specs.declared.closing.Closing.{Closing}
 use Rattle.scmi_link.specs.declared.closing.Closing.TheVariants.{Idle, Withdrawn}
 use Rattle.scmi_link.specs.declared.close_error.CloseError.{CloseError}
 use Rattle.scmi_link.specs.declared.close_error.CloseError.TheVariants.{InService, ReplyWaiting}
-use Rattle.scmi_script.specs.declared.shut_error.ShutError.{ShutError}
-use Rattle.scmi_script.specs.declared.shut_error.ShutError.TheVariants as shut
+use Rattle.scmi_link.specs.declared.shut_error.ShutError.{ShutError}
+use Rattle.scmi_link.specs.declared.shut_error.ShutError.TheVariants as shut
 use Rattle.scmi_ends.specs.ControllerView.{ControllerView, callee_of, caller_of, closed_at_of}
 
 -- what an end with this view shows by a close, as its kind of channel says it

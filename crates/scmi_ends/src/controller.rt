@@ -15,8 +15,7 @@ use crate::serve_error::ServeError;
 use crate::serve_on::serve_one_on;
 use crate::shut::shut_one;
 use scmi_core::{Core, Hardware};
-use scmi_link::Channel;
-use scmi_script::{Flushed, Served, ShutError};
+use scmi_link::{Channel, Flushed, Served, ShutError};
 use std::marker::Model;
 
 /// The platform: its core, and its endpoints of each agent's two channels.

@@ -6,8 +6,7 @@ ghost use Rattle.scmi_ends.specs.Flush.{CollectsAndFlushes};
 
 use crate::buffers::Buffers;
 use scmi_core::Core;
-use scmi_link::{Channel, PostError};
-use scmi_script::Flushed;
+use scmi_link::{Channel, Flushed, PostError};
 
 // Collects on P2A into `buffers`, and then posts the first message of the agent's outbox, once. The
 // trace has room for it.

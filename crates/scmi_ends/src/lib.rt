@@ -35,6 +35,6 @@ pub use lives::every_life;
 pub use pause::Pause;
 pub use plain_calls::every_plain_call;
 pub use processors::Processors;
-pub use scmi_script::{Flushed, Served, ShutError};
+pub use scmi_link::{Flushed, Served, ShutError};
 pub use serve_error::ServeError;
 pub use waited::Waited;

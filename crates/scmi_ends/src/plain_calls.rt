@@ -3,8 +3,8 @@
 ghost use Rattle.std.specs.Prelude.{ℕ, Bool};
 ghost use Rattle.std.specs.List.{All};
 ghost use Rattle.scmi_core.specs.Plain.{IsPlain};
-ghost use Rattle.scmi_script.specs.declared.flushed.Flushed.{Flushed};
-ghost use Rattle.scmi_script.specs.declared.served.Served.{Served};
+ghost use Rattle.scmi_link.specs.declared.flushed.Flushed.{Flushed};
+ghost use Rattle.scmi_link.specs.declared.served.Served.{Served};
 ghost use Rattle.scmi_ends.specs.ControllerView.{ControllerView};
 ghost use Rattle.scmi_ends.specs.Flush.{Flushes};
 ghost use Rattle.scmi_ends.specs.Serve.{Serves};

@@ -9,8 +9,7 @@ ghost use Rattle.scmi_ends.specs.Serve.{ServesOne};
 use crate::buffers::Buffers;
 use scmi_codec::Answer;
 use scmi_core::{Answered, Core};
-use scmi_link::Channel;
-use scmi_script::Served;
+use scmi_link::{Channel, Served};
 
 // Takes a command off A2P, executes it and answers it, by way of `buffers`. The trace has room for
 // it.

@@ -8,8 +8,7 @@ ghost use Rattle.scmi_ends.specs.ServeOn.{ServesOneOn};
 use crate::buffers::Buffers;
 use crate::serve::answer_malformed;
 use scmi_core::{Answered, Core, Hardware};
-use scmi_link::Channel;
-use scmi_script::Served;
+use scmi_link::{Channel, Served};
 
 // As `serve_one`, beside the hardware: what the command changes of it is made first.
 pub(crate) fn serve_one_on<C: Channel, H: Hardware>(

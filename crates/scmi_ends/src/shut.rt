@@ -6,8 +6,7 @@ ghost use Rattle.scmi_ends.specs.Shut.{CollectsAndShuts, ShowsClose};
 
 use crate::link::Link;
 use scmi_codec::Answer;
-use scmi_link::{Channel, CloseError};
-use scmi_script::ShutError;
+use scmi_link::{Channel, CloseError, ShutError};
 
 // Closes A2P, if no answer is owed, and notes after how many events it first did; collects on P2A,
 // and closes that.

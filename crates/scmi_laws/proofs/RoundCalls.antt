@@ -25,10 +25,10 @@ use Rattle.scmi_core.specs.Pending.{acceptance, is_advance, pending_sets}
 use Rattle.scmi_core.proofs.Deeds.{added_success, pending_left}
 use Rattle.scmi_core.proofs.Laws.{as_many}
 use Rattle.scmi_core.proofs.Legal.{IsLegal-front, deed-event}
-use Rattle.scmi_script.specs.declared.flushed.Flushed.{Flushed}
-use Rattle.scmi_script.specs.declared.flushed.Flushed.TheVariants as flushed
-use Rattle.scmi_script.specs.declared.served.Served.{Served}
-use Rattle.scmi_script.specs.declared.served.Served.TheVariants as served
+use Rattle.scmi_link.specs.declared.flushed.Flushed.{Flushed}
+use Rattle.scmi_link.specs.declared.flushed.Flushed.TheVariants as flushed
+use Rattle.scmi_link.specs.declared.served.Served.{Served}
+use Rattle.scmi_link.specs.declared.served.Served.TheVariants as served
 use Rattle.scmi_ends.specs.Agreement.{IsInStep, IsServed}
 use Rattle.scmi_ends.specs.ControllerView.{ControllerView, callee_of, caller_of}
 use Rattle.scmi_ends.specs.Each.{AllFrom}

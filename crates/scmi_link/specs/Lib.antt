@@ -11,3 +11,5 @@ pub mod CalleeRings
 pub mod RingChannel
 pub mod RingCaller
 pub mod RingCallee
+pub mod Scripts
+pub mod Lines

@@ -19,8 +19,8 @@ use Rattle.scmi_core.specs.History.{deeds}
 use Rattle.scmi_core.specs.Legal.{IsLegal}
 use Rattle.scmi_core.specs.Pending.{pending_sets}
 use Rattle.scmi_core.specs.Value.{completion}
-use Rattle.scmi_script.specs.declared.served.Served.{Served}
-use Rattle.scmi_script.specs.declared.served.Served.TheVariants.{Nothing, Done}
+use Rattle.scmi_link.specs.declared.served.Served.{Served}
+use Rattle.scmi_link.specs.declared.served.Served.TheVariants.{Nothing, Done}
 use Rattle.scmi_ends.specs.ControllerView.{ControllerView}
 use Rattle.scmi_ends.specs.ServeOn.{ServesOn}
 use Rattle.scmi_modes.specs.Refusing.{IsAllRefusedWith, IsRefusedWith}

@@ -3,8 +3,8 @@ use Rattle.std.proofs.Common.{ℕ, ◌≤◌, List, subst, arith}
 use Rattle.std.proofs.lemmas.List.{get_or-map, length-map}
 use Rattle.std.specs.List.{All}
 use Rattle.scmi_plan.specs.Agent.{IsAgent}
-use Rattle.scmi_script.specs.declared.script.Script.{Script}
-use Rattle.scmi_script.specs.Scripts.{AreScriptsOf}
+use Rattle.scmi_link.specs.declared.script.Script.{Script}
+use Rattle.scmi_link.specs.Scripts.{AreScriptsOf}
 use Rattle.scmi_text.specs.Scripts.{agents_of, AreOfDistinctAgents}
 
 pub scripts_of_agents : (agents : ℕ) (scripts : List Script) → All (IsAgent agents) (agents_of scripts) → AreOfDistinctAgents scripts → AreScriptsOf agents scripts

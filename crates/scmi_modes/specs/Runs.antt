@@ -4,8 +4,8 @@ use Rattle.std.specs.List.{All}
 use Rattle.std.specs.Io.KnownBytes.{Appends}
 use Rattle.scmi_plan.specs.Board.{Board}
 use Rattle.scmi_core.specs.Legal.{IsLegal}
-use Rattle.scmi_script.specs.Scripts.{AreScriptsOf, orders_of}
-use Rattle.scmi_script.specs.declared.script.Script.{Script}
+use Rattle.scmi_link.specs.Scripts.{AreScriptsOf, orders_of}
+use Rattle.scmi_link.specs.declared.script.Script.{Script}
 use Rattle.scmi_ends.specs.Each.{AllFrom}
 use Rattle.scmi_threads.specs.Logs.{LogHeadline}
 use Rattle.scmi_core.specs.Plain.{IsPlain}

@@ -20,7 +20,7 @@ use Rattle.scmi_core.specs.History.{deeds}
 use Rattle.scmi_core.specs.Pending.{pending_sets}
 use Rattle.scmi_core.specs.Value.{HasNoResource, HasNoState, IsReportable}
 use Rattle.scmi_core.specs.declared.event.Event.TheVariants as event
-use Rattle.scmi_script.specs.declared.served.Served.{Served}
+use Rattle.scmi_link.specs.declared.served.Served.{Served}
 use Rattle.scmi_ends.specs.AgentView.{AgentView}
 use Rattle.scmi_ends.specs.ControllerView.{ControllerView}
 use Rattle.scmi_ends.specs.Poll.{Receives}

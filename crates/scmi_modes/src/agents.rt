@@ -5,7 +5,7 @@ ghost use Rattle.scmi_core.specs.Bounds.{HasBounds, HasResponses};
 ghost use Rattle.scmi_core.specs.History.{deeds};
 ghost use Rattle.scmi_core.specs.Legal.{IsLegal};
 ghost use Rattle.scmi_core.specs.Plain.{IsPlain};
-ghost use Rattle.scmi_script.specs.Scripts.{AreScriptsOf, orders_of};
+ghost use Rattle.scmi_link.specs.Scripts.{AreScriptsOf, orders_of};
 ghost use Rattle.scmi_ends.specs.Each.{AllFrom};
 ghost use Rattle.scmi_threads.specs.AfterClose.{EndsAtClose};
 ghost use Rattle.scmi_threads.specs.Logs.{LogHeadline};

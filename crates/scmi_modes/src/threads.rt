@@ -3,7 +3,7 @@
 ghost use Rattle.std.specs.Prelude.{◌≡◌, ◌≤◌, ◌+◌, ◌⊎◌, None, Some, length, Ok, IfErr, IfOk, IfSome, IsErrOf, MatchResult, OnOk, IsTrue};
 ghost use Rattle.std.specs.List.{All};
 ghost use Rattle.std.specs.Io.KnownBytes.{Appends};
-ghost use Rattle.scmi_script.specs.Scripts.{AreScriptsOf};
+ghost use Rattle.scmi_link.specs.Scripts.{AreScriptsOf};
 ghost use Rattle.scmi_modes.specs.Reads.{StopsAtFailure};
 ghost use Rattle.scmi_modes.specs.RunError.{status_of};
 ghost use Rattle.scmi_text.specs.ScriptText.{scripts_of};

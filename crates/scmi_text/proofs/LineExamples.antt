@@ -9,10 +9,10 @@ use Rattle.scmi_link.specs.declared.closing.Closing.TheVariants.{Idle, Withdrawn
 use Rattle.scmi_link.specs.declared.collected.Collected.TheVariants as collected
 use Rattle.scmi_link.specs.declared.post_error.PostError.TheVariants as post
 use Rattle.scmi_io.specs.Filled.{filled}
-use Rattle.scmi_script.specs.declared.flushed.Flushed.TheVariants as flushed
-use Rattle.scmi_script.specs.declared.served.Served.TheVariants as served
-use Rattle.scmi_script.specs.declared.shut_error.ShutError.TheVariants as shut
-use Rattle.scmi_script.specs.declared.line.Line.TheVariants as line
+use Rattle.scmi_link.specs.declared.flushed.Flushed.TheVariants as flushed
+use Rattle.scmi_link.specs.declared.served.Served.TheVariants as served
+use Rattle.scmi_link.specs.declared.shut_error.ShutError.TheVariants as shut
+use Rattle.scmi_link.specs.declared.line.Line.TheVariants as line
 use Rattle.scmi_text.specs.PackedStep.{raw_with}
 use Rattle.scmi_text.specs.ScriptLine.{lines_text}
 use Rattle.scmi_text.specs.StepLine.{step_text}

@@ -10,7 +10,7 @@ use Rattle.std.specs.List.{All, list_any, IsDistinct}
 use Rattle.std.specs.Ordering.{nat_cmp, is_eq}
 use Rattle.std.specs.BTreeSet.{BTreeSet, contains, Updates}
 use Rattle.scmi_plan.specs.Agent.{IsAgent}
-use Rattle.scmi_script.specs.declared.script.Script.{Script}
+use Rattle.scmi_link.specs.declared.script.Script.{Script}
 use Rattle.scmi_text.specs.Scripts.{agents_of, AreOfDistinctAgents}
 
 -- no scripts are of distinct agents

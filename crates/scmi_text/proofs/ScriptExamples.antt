@@ -4,7 +4,7 @@ use Rattle.std.specs.Prelude.{codes}
 use Rattle.scmi_board.specs.Items.{behind_spaces, first_number, item_at, items_up_to}
 use Rattle.scmi_board.specs.Lines.{lines_behind, lines_of}
 use Rattle.scmi_board.specs.Number.{number_of}
-use Rattle.scmi_script.specs.declared.order.Order.TheVariants.{Call, Until, P2a, Close}
+use Rattle.scmi_link.specs.declared.order.Order.TheVariants.{Call, Until, P2a, Close}
 use Rattle.scmi_text.specs.Fields.{first_agent, first_message, payload_behind, with_word}
 use Rattle.scmi_text.specs.ScriptText.{agent_at, order_at, scripts_left, with_form, with_line, with_order, with_script}
 use Rattle.scmi_text.specs.TextLines.{after_each_line}

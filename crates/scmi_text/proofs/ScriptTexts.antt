@@ -3,8 +3,8 @@ use Rattle.std.proofs.Common.{ℕ, zero, suc, ◌+◌, ◌<◌, ◌≡◌, Bool,
 use Rattle.std.proofs.lemmas.List.{map-append}
 use Rattle.std.specs.List.{list_any}
 use Rattle.scmi_board.specs.Items.{◌>>=◌}
-use Rattle.scmi_script.specs.declared.order.Order.{Order}
-use Rattle.scmi_script.specs.declared.script.Script.{Script}
+use Rattle.scmi_link.specs.declared.order.Order.{Order}
+use Rattle.scmi_link.specs.declared.script.Script.{Script}
 use Rattle.scmi_text.specs.Scripts.{agents_of}
 use Rattle.scmi_text.specs.ScriptText.{AgentScript, script_of, scripts_of, with_order, with_script}
 

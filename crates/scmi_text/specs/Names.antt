@@ -6,12 +6,12 @@ use Rattle.scmi_link.specs.declared.closing.Closing.{Closing}
 use Rattle.scmi_link.specs.declared.closing.Closing.TheVariants.{Idle, Withdrawn}
 use Rattle.scmi_link.specs.declared.close_error.CloseError.{CloseError}
 use Rattle.scmi_link.specs.declared.close_error.CloseError.TheVariants.{InService, ReplyWaiting}
-use Rattle.scmi_script.specs.declared.served.Served.{Served}
-use Rattle.scmi_script.specs.declared.served.Served.TheVariants.{Nothing as ServedNothing, Done}
-use Rattle.scmi_script.specs.declared.flushed.Flushed.{Flushed}
-use Rattle.scmi_script.specs.declared.flushed.Flushed.TheVariants.{Nothing as FlushedNothing, Waiting, Posted, Closed as FlushedClosed}
-use Rattle.scmi_script.specs.declared.shut_error.ShutError.{ShutError}
-use Rattle.scmi_script.specs.declared.shut_error.ShutError.TheVariants.{InService as ShutInService, ReplyWaiting as ShutReplyWaiting, NoAgent}
+use Rattle.scmi_link.specs.declared.served.Served.{Served}
+use Rattle.scmi_link.specs.declared.served.Served.TheVariants.{Nothing as ServedNothing, Done}
+use Rattle.scmi_link.specs.declared.flushed.Flushed.{Flushed}
+use Rattle.scmi_link.specs.declared.flushed.Flushed.TheVariants.{Nothing as FlushedNothing, Waiting, Posted, Closed as FlushedClosed}
+use Rattle.scmi_link.specs.declared.shut_error.ShutError.{ShutError}
+use Rattle.scmi_link.specs.declared.shut_error.ShutError.TheVariants.{InService as ShutInService, ReplyWaiting as ShutReplyWaiting, NoAgent}
 use Rattle.scmi_text.specs.declared.names.TheConstants.{CLOSED, DONE, FULL, IDLE, IN_SERVICE, NO, NOTHING, NO_AGENT, OK, OUTSTANDING, POSTED, REPLY_WAITING, WAITING, WELL_FORMED, WITHDRAWN, YES}
 
 -- why a post was refused

@@ -1,8 +1,8 @@
 -- The lines of agents that run in threads.
 use Rattle.std.specs.Prelude.{ℕ, List, [], ◌∷◌, decimal, flat_map}
 use Rattle.scmi_io.specs.Filled.{filled}
-use Rattle.scmi_script.specs.declared.line.Line.{Line}
-use Rattle.scmi_script.specs.declared.line.Line.TheVariants.{Got, Error, Closed, NotPosted, Limit, UntilOk, UntilLimit, P2a, Close, NotClosed}
+use Rattle.scmi_link.specs.declared.line.Line.{Line}
+use Rattle.scmi_link.specs.declared.line.Line.TheVariants.{Got, Error, Closed, NotPosted, Limit, UntilOk, UntilLimit, P2a, Close, NotClosed}
 use Rattle.scmi_text.specs.Words.{words_text}
 use Rattle.scmi_text.specs.Names.{refusal_text, closing_text, close_error_text}
 use Rattle.scmi_text.specs.StepLine.{frame_text}

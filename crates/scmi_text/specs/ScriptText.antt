@@ -3,9 +3,9 @@ use Rattle.std.specs.Prelude.{ℕ, ◌++◌, if◌then◌else◌, List, [], ◌�
 use Rattle.std.specs.List.{list_any}
 use Rattle.scmi_board.specs.Items.{◌>>=◌, ItemsView, first_item, first_number, items_left, no_item}
 use Rattle.scmi_board.specs.Lines.{LinesView, lines_left}
-use Rattle.scmi_script.specs.declared.order.Order.{Order}
-use Rattle.scmi_script.specs.declared.order.Order.TheVariants as order
-use Rattle.scmi_script.specs.declared.script.Script.{Script}
+use Rattle.scmi_link.specs.declared.order.Order.{Order}
+use Rattle.scmi_link.specs.declared.order.Order.TheVariants as order
+use Rattle.scmi_link.specs.declared.script.Script.{Script}
 use Rattle.scmi_text.specs.Fields.{first_agent, first_message, payload_left}
 use Rattle.scmi_text.specs.TextLines.{after_lines}
 use Rattle.scmi_text.specs.WordRow.{form_in}

@@ -1,7 +1,7 @@
 -- The agents of scripts.
 use Rattle.std.specs.Prelude.{ℕ, List, map, nat_eq}
 use Rattle.std.specs.List.{IsDistinct}
-use Rattle.scmi_script.specs.declared.script.Script.{Script}
+use Rattle.scmi_link.specs.declared.script.Script.{Script}
 
 -- the agent of each script
 abbrev pub agents_of : List Script → List ℕ

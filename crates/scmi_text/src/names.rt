@@ -2,8 +2,7 @@
 ghost use Rattle.std.specs.Prelude.{◌≡◌};
 ghost use Rattle.scmi_text.specs.Names.{refusal_text, served_text, flushed_text, closing_text, close_error_text, shut_error_text, close_text, shut_text, advanced_text};
 
-use scmi_link::{CloseError, Closing, PostError};
-use scmi_script::{Flushed, Served, ShutError};
+use scmi_link::{CloseError, Closing, Flushed, PostError, Served, ShutError};
 
 const OUTSTANDING: &str = "outstanding";
 

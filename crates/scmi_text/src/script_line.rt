@@ -9,7 +9,7 @@ use crate::received::write_frame;
 use crate::value::Value::{Name, Number, Words};
 use crate::value::write_agent_line;
 use scmi_io::write_filled;
-use scmi_script::Line;
+use scmi_link::Line;
 use std::io;
 use std::io::Write;
 

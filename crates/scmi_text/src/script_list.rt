@@ -10,7 +10,7 @@ ghost use Rattle.scmi_text.specs.ScriptText.{scripts_of, with_order, with_script
 ghost use Rattle.scmi_text.specs.Scripts.{agents_of, AreOfDistinctAgents};
 
 use scmi_board::LineError;
-use scmi_script::{Order, Script};
+use scmi_link::{Order, Script};
 use std::alloc::Global;
 use std::collections::BTreeSet;
 

@@ -14,7 +14,7 @@ use crate::order_form::{OrderForm, SCRIPT_FORMS, ScriptForm};
 use crate::script_list::ScriptList;
 use crate::word_row::form_in;
 use scmi_board::{Items, LineError, Lines, TextError};
-use scmi_script::{Order, Script};
+use scmi_link::{Order, Script};
 use std::alloc::Global;
 
 /// The scripts that all remaining lines encode, in the order of their first lines (own). Each is of

@@ -13,8 +13,7 @@ use crate::value::Value::{Count, Name, Number};
 use crate::value::write_agent_line;
 use scmi_codec::Frame;
 use scmi_io::write_filled;
-use scmi_link::{CloseError, Closing, Collected, PostError};
-use scmi_script::{Flushed, Served, ShutError};
+use scmi_link::{CloseError, Closing, Collected, Flushed, PostError, Served, ShutError};
 use std::io;
 use std::io::Write;
 

@@ -11,13 +11,13 @@ use Rattle.scmi_link.specs.declared.closing.Closing.TheVariants.{Idle}
 use Rattle.scmi_link.specs.declared.post_error.PostError.TheVariants as post
 use Rattle.scmi_plan.specs.Board.{Board}
 use Rattle.scmi_core.specs.declared.event.Event.{Event}
-use Rattle.scmi_script.specs.Lines.{closing_of, first_closing}
-use Rattle.scmi_script.specs.Scripts.{is_close, up_to_close}
-use Rattle.scmi_script.specs.declared.line.Line.{Line}
-use Rattle.scmi_script.specs.declared.line.Line.TheVariants as line
-use Rattle.scmi_script.specs.declared.order.Order.{Order}
-use Rattle.scmi_script.specs.declared.order.Order.TheVariants as order
-use Rattle.scmi_script.proofs.LineLemmas.{or_again}
+use Rattle.scmi_link.specs.Lines.{closing_of, first_closing}
+use Rattle.scmi_link.specs.Scripts.{is_close, up_to_close}
+use Rattle.scmi_link.specs.declared.line.Line.{Line}
+use Rattle.scmi_link.specs.declared.line.Line.TheVariants as line
+use Rattle.scmi_link.specs.declared.order.Order.{Order}
+use Rattle.scmi_link.specs.declared.order.Order.TheVariants as order
+use Rattle.scmi_link.proofs.LineLemmas.{or_again}
 use Rattle.scmi_ends.specs.Each.{AllFrom}
 use Rattle.scmi_threads.specs.Logs.{LogHeadline}
 use Rattle.scmi_threads.specs.Parts.{Part, Writes, CallWrites, call_answered, call_did_not_fit, call_found_no_place, call_ran_out, call_had_no_room, UntilWrites, state_seen, state_not_seen, state_ran_out, state_found_no_place, state_had_no_room, P2aWrites, messages_taken, messages_ran_out, messages_had_no_room, CloseWrites, close_done, close_had_no_room, ClosedWrites, call_refused, state_refused, none_asked_for, none_came, closed_again, line_had_no_room}

@@ -10,7 +10,7 @@ use Rattle.scmi_link.specs.declared.collected.Collected.{Collected}
 use Rattle.scmi_link.specs.declared.collected.Collected.TheVariants as collected
 use Rattle.scmi_link.specs.declared.post_error.PostError.{PostError}
 use Rattle.scmi_link.specs.declared.post_error.PostError.TheVariants as post
-use Rattle.scmi_script.specs.Lines.{answer_line}
+use Rattle.scmi_link.specs.Lines.{answer_line}
 use Rattle.scmi_ends.specs.Poll.{Waits}
 use Rattle.scmi_threads.specs.Orders.{AreAnswersTo, HasAwaited, IsAnswerTo, IsUndisturbed}
 

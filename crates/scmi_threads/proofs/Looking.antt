@@ -10,9 +10,9 @@ use Rattle.scmi_link.specs.declared.collected.Collected.{Collected}
 use Rattle.scmi_link.specs.declared.collected.Collected.TheVariants as collected
 use Rattle.scmi_link.specs.declared.post_error.PostError.{PostError}
 use Rattle.scmi_link.specs.declared.post_error.PostError.TheVariants as post
-use Rattle.scmi_script.specs.Lines.{answer_line}
-use Rattle.scmi_script.specs.declared.line.Line.{Line}
-use Rattle.scmi_script.specs.declared.line.Line.TheVariants as line
+use Rattle.scmi_link.specs.Lines.{answer_line}
+use Rattle.scmi_link.specs.declared.line.Line.{Line}
+use Rattle.scmi_link.specs.declared.line.Line.TheVariants as line
 use Rattle.scmi_ends.specs.Poll.{Looks, EndsAfter, Receives, more_calls}
 use Rattle.scmi_ends.proofs.Counts.{no_calls, next_call, calls_after, some_calls}
 use Rattle.scmi_threads.specs.Orders.{AreLooksBy, HasLookedFor, HasWaited}

@@ -3,9 +3,9 @@ use Rattle.std.proofs.Common.{◌≡◌, ℕ, zero, suc, ◌-◌, Bool, false, L
 use Rattle.std.specs.List.{All}
 use Rattle.std.proofs.lemmas.List.Elements.{All-head, All-tail, All-set, All-replicate}
 use Rattle.scmi_link.specs.View.{CalleeView, new_callee}
-use Rattle.scmi_script.specs.declared.served.Served.{Served}
-use Rattle.scmi_script.specs.declared.served.Served.TheVariants as served
-use Rattle.scmi_script.specs.declared.flushed.Flushed.{Flushed}
+use Rattle.scmi_link.specs.declared.served.Served.{Served}
+use Rattle.scmi_link.specs.declared.served.Served.TheVariants as served
+use Rattle.scmi_link.specs.declared.flushed.Flushed.{Flushed}
 use Rattle.scmi_ends.specs.ControllerView.{ControllerView, callee_of}
 use Rattle.scmi_ends.specs.ServeOn.{ServesOn, ServesOneOn}
 use Rattle.scmi_ends.specs.Flush.{Flushes}

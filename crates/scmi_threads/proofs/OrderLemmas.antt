@@ -12,11 +12,11 @@ use Rattle.scmi_link.specs.declared.closing.Closing.TheVariants.{Idle, Withdrawn
 use Rattle.scmi_link.specs.declared.closing.Closing.{Closing}
 use Rattle.scmi_link.specs.declared.post_error.PostError.{PostError}
 use Rattle.scmi_link.specs.declared.post_error.PostError.TheVariants as post
-use Rattle.scmi_script.specs.Scripts.{IsForNothing}
-use Rattle.scmi_script.specs.declared.line.Line.{Line}
-use Rattle.scmi_script.specs.declared.line.Line.TheVariants as line
-use Rattle.scmi_script.specs.declared.order.Order.{Order}
-use Rattle.scmi_script.specs.declared.order.Order.TheVariants as order
+use Rattle.scmi_link.specs.Scripts.{IsForNothing}
+use Rattle.scmi_link.specs.declared.line.Line.{Line}
+use Rattle.scmi_link.specs.declared.line.Line.TheVariants as line
+use Rattle.scmi_link.specs.declared.order.Order.{Order}
+use Rattle.scmi_link.specs.declared.order.Order.TheVariants as order
 use Rattle.scmi_threads.specs.Logs.{HasSameLooks, IsSameLog}
 use Rattle.scmi_threads.specs.Orders.{IsAtRest, LeavesRest, HasAsked, HasAskedFor, HasLooked, HasWaited, HasMore, HasDone, IsUnmoved, HasLookedFor, HasTaken, IsGot, IsRefusal, ShowsState, ending, stop_of, stop_of_seen, lines_of_seen}
 use Rattle.scmi_threads.specs.Parts.{Part, AreLooksOf, HasState, Writes, only_lines, of_calls, of_messages, command, state_commands, CallWrites, call_answered, call_did_not_fit, call_found_no_place, call_ran_out, call_had_no_room, UntilWrites, state_seen, state_not_seen, state_ran_out, state_found_no_place, state_had_no_room, P2aWrites, messages_taken, messages_ran_out, messages_had_no_room, CloseWrites, close_done, close_had_no_room, ClosedWrites, call_refused, state_refused, none_asked_for, none_came, closed_again, line_had_no_room}

@@ -9,8 +9,8 @@ use Rattle.scmi_core.specs.Driven.{HappensOn, IsCommandOf, IsEnd}
 use Rattle.scmi_core.specs.Plain.{IsNoReport, IsNoRestart, IsPlain}
 use Rattle.scmi_core.specs.declared.event.Event.{Event}
 use Rattle.scmi_core.specs.declared.event.Event.TheVariants.{Command, Advance, Sent, CommandFailed, AdvanceFailed, Restarted, Reported}
-use Rattle.scmi_script.specs.declared.served.Served.{Served}
-use Rattle.scmi_script.specs.declared.served.Served.TheVariants as served
+use Rattle.scmi_link.specs.declared.served.Served.{Served}
+use Rattle.scmi_link.specs.declared.served.Served.TheVariants as served
 use Rattle.scmi_ends.specs.ControllerView.{ControllerView, callee_of}
 use Rattle.scmi_ends.specs.ServeOn.{ServesOn, ServesOneOn}
 use Rattle.scmi_ends.proofs.PlainCalls.{one_more_event}

@@ -5,9 +5,9 @@ use Rattle.scmi_core.specs.Driven.{HappensOn, HasMade, IsEnd}
 use Rattle.scmi_core.specs.Asked.{Asked}
 use Rattle.scmi_core.specs.declared.event.Event.{Event}
 use Rattle.scmi_core.specs.declared.event.Event.TheVariants.{Advance, Sent}
-use Rattle.scmi_script.specs.declared.flushed.Flushed.{Flushed}
-use Rattle.scmi_script.specs.declared.flushed.Flushed.TheVariants as flushed
-use Rattle.scmi_script.specs.declared.served.Served.{Served}
+use Rattle.scmi_link.specs.declared.flushed.Flushed.{Flushed}
+use Rattle.scmi_link.specs.declared.flushed.Flushed.TheVariants as flushed
+use Rattle.scmi_link.specs.declared.served.Served.{Served}
 use Rattle.scmi_ends.proofs.PlainCalls.{flushed_all, flushed_asks, served_plain}
 use Rattle.scmi_ends.specs.ControllerView.{ControllerView}
 use Rattle.scmi_ends.specs.Flush.{Flushes, FlushesOne}

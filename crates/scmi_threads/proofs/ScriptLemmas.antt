@@ -6,8 +6,8 @@ use Rattle.std.proofs.lemmas.List.{append-nil, length-append, take_more, drop_mo
 use Rattle.std.proofs.lemmas.Grind.{flat_map-append}
 use Rattle.scmi_link.specs.View.{CallerView, new_caller}
 use Rattle.std.proofs.lemmas.List.Sums.{sum_by-append}
-use Rattle.scmi_script.specs.Scripts.{is_close}
-use Rattle.scmi_script.specs.declared.order.Order.{Order}
+use Rattle.scmi_link.specs.Scripts.{is_close}
+use Rattle.scmi_link.specs.declared.order.Order.{Order}
 use Rattle.scmi_ends.specs.Poll.{more_calls}
 use Rattle.scmi_ends.proofs.Counts.{calls_of_sum}
 use Rattle.scmi_threads.specs.Logs.{HasSameLooks, IsEmptyLog}

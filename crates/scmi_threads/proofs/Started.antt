@@ -5,8 +5,8 @@ use Rattle.std.specs.Prelude.{remove}
 use Rattle.std.specs.List.{All, AllZip}
 use Rattle.std.proofs.lemmas.List.{append-nil, drop_more, drop_all}
 use Rattle.std.proofs.lemmas.List.Elements.{All-head, All-tail}
-use Rattle.scmi_script.specs.Scripts.{orders_of}
-use Rattle.scmi_script.specs.declared.script.Script.{Script}
+use Rattle.scmi_link.specs.Scripts.{orders_of}
+use Rattle.scmi_link.specs.declared.script.Script.{Script}
 use Rattle.scmi_ends.specs.Each.{AllFrom}
 use Rattle.scmi_ends.specs.AgentView.{AgentView, IsNewAgent}
 use Rattle.scmi_threads.specs.Orders.{IsUndisturbed}

@@ -5,10 +5,10 @@ use Rattle.scmi_link.specs.declared.closing.Closing.TheVariants.{Idle}
 use Rattle.scmi_link.specs.declared.post_error.PostError.TheVariants as post
 use Rattle.scmi_core.specs.Agents.{frames_of}
 use Rattle.scmi_core.specs.declared.event.Event.{Event}
-use Rattle.scmi_script.specs.Scripts.{up_to_close}
-use Rattle.scmi_script.specs.declared.line.Line.{Line}
-use Rattle.scmi_script.specs.declared.line.Line.TheVariants as line
-use Rattle.scmi_script.specs.declared.order.Order.{Order}
+use Rattle.scmi_link.specs.Scripts.{up_to_close}
+use Rattle.scmi_link.specs.declared.line.Line.{Line}
+use Rattle.scmi_link.specs.declared.line.Line.TheVariants as line
+use Rattle.scmi_link.specs.declared.order.Order.{Order}
 use Rattle.scmi_threads.specs.Parts.{Part}
 use Rattle.scmi_threads.specs.ScriptLogs.{Follows}
 use Rattle.scmi_threads.specs.declared.agent_log.AgentLog.{AgentLog}

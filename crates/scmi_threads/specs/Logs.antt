@@ -7,7 +7,7 @@ use Rattle.scmi_plan.specs.Board.{Board}
 use Rattle.scmi_core.specs.Agents.{frames_of, answers_to}
 use Rattle.scmi_core.specs.History.{delivered_messages}
 use Rattle.scmi_core.specs.declared.event.Event.{Event}
-use Rattle.scmi_script.specs.Lines.{messages_of, first_closing}
+use Rattle.scmi_link.specs.Lines.{messages_of, first_closing}
 use Rattle.scmi_ends.specs.AgentView.{AgentView}
 use Rattle.scmi_ends.specs.Headline.{IsAllMade}
 use Rattle.scmi_threads.specs.declared.agent_log.AgentLog.{AgentLog}

@@ -10,11 +10,11 @@ use Rattle.scmi_link.specs.View.{CallerView}
 use Rattle.scmi_link.specs.declared.post_error.PostError.{PostError}
 use Rattle.scmi_link.specs.declared.post_error.PostError.TheVariants as post
 use Rattle.scmi_plan.specs.declared.agent_channel.TheConstants.{LEAST_CHANNEL_WORDS}
-use Rattle.scmi_script.specs.Scripts.{is_close}
-use Rattle.scmi_script.specs.declared.line.Line.{Line}
-use Rattle.scmi_script.specs.declared.line.Line.TheVariants as line
-use Rattle.scmi_script.specs.declared.order.Order.{Order}
-use Rattle.scmi_script.specs.declared.order.Order.TheVariants as order
+use Rattle.scmi_link.specs.Scripts.{is_close}
+use Rattle.scmi_link.specs.declared.line.Line.{Line}
+use Rattle.scmi_link.specs.declared.line.Line.TheVariants as line
+use Rattle.scmi_link.specs.declared.order.Order.{Order}
+use Rattle.scmi_link.specs.declared.order.Order.TheVariants as order
 use Rattle.scmi_ends.specs.Poll.{more_calls}
 use Rattle.scmi_threads.specs.Parts.{Part, AreLooksOf, HasState, Writes, state_commands}
 use Rattle.scmi_threads.specs.declared.agent_log.AgentLog.{AgentLog}

@@ -11,11 +11,11 @@ use Rattle.scmi_codec.specs.declared.header.TheConstants.{TOKENS}
 use Rattle.scmi_link.specs.declared.closing.Closing.TheVariants.{Idle}
 use Rattle.scmi_link.specs.declared.post_error.PostError.TheVariants as post
 use Rattle.scmi_plan.specs.declared.agent_channel.TheConstants.{LEAST_CHANNEL_WORDS}
-use Rattle.scmi_script.specs.Scripts.{IsForNothing}
-use Rattle.scmi_script.specs.declared.line.Line.{Line}
-use Rattle.scmi_script.specs.declared.line.Line.TheVariants as line
-use Rattle.scmi_script.specs.declared.order.Order.{Order}
-use Rattle.scmi_script.specs.declared.order.Order.TheVariants as order
+use Rattle.scmi_link.specs.Scripts.{IsForNothing}
+use Rattle.scmi_link.specs.declared.line.Line.{Line}
+use Rattle.scmi_link.specs.declared.line.Line.TheVariants as line
+use Rattle.scmi_link.specs.declared.order.Order.{Order}
+use Rattle.scmi_link.specs.declared.order.Order.TheVariants as order
 use Rattle.scmi_threads.specs.declared.limits.TheConstants.{TURNS, CALLS}
 use Rattle.scmi_threads.specs.declared.stop.Stop.{Stop}
 use Rattle.scmi_threads.specs.declared.stop.Stop.TheVariants as stop

@@ -1,8 +1,8 @@
 -- How a log follows its script.
 use Rattle.std.specs.Prelude.{◌≡◌, ℕ, ◌+◌, ◌-◌, ◌%◌, ◌^◌, ◌<◌, min, Bool, false, ◌||◌, List, [], ◌∷◌, length, Option, Some, None}
 use Rattle.std.specs.List.{flat_map, sum_by}
-use Rattle.scmi_script.specs.declared.order.Order.{Order}
-use Rattle.scmi_script.specs.Scripts.{is_close}
+use Rattle.scmi_link.specs.declared.order.Order.{Order}
+use Rattle.scmi_link.specs.Scripts.{is_close}
 use Rattle.scmi_threads.specs.Parts.{Part, Writes}
 use Rattle.scmi_threads.specs.declared.agent_log.AgentLog.{AgentLog}
 use Rattle.scmi_threads.specs.declared.stop.Stop.{Stop}

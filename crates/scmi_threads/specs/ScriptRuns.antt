@@ -1,8 +1,8 @@
 -- The run of an agent's script before and after its script.
 use Rattle.std.specs.Prelude.{◌≡◌, ℕ, Bool, List}
 use Rattle.scmi_link.specs.View.{new_caller, new_callee}
-use Rattle.scmi_script.specs.Scripts.{orders_of}
-use Rattle.scmi_script.specs.declared.script.Script.{Script}
+use Rattle.scmi_link.specs.Scripts.{orders_of}
+use Rattle.scmi_link.specs.declared.script.Script.{Script}
 use Rattle.scmi_ends.specs.AgentView.{AgentView, IsOfLink}
 use Rattle.scmi_threads.specs.Logs.{IsEmptyLog}
 use Rattle.scmi_threads.specs.Orders.{IsUndisturbed}

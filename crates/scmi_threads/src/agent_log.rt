@@ -1,13 +1,12 @@
 //! What an agent's script did.
 ghost use Rattle.std.specs.Prelude.{◌≡◌, ◌<◌, ◌%◌, ◌∷◌, ◌++◌, [], None, Some, length, map, vec_len, vec_capacity, IfErr, OnOk};
 ghost use Rattle.scmi_codec.specs.declared.header.TheConstants.{TOKENS};
-ghost use Rattle.scmi_script.specs.Lines.{message_of, closing_of, messages_of, first_closing};
+ghost use Rattle.scmi_link.specs.Lines.{message_of, closing_of, messages_of, first_closing};
 ghost use Rattle.scmi_threads.specs.Tokens.{command_token, first_tokens};
 
 use crate::stop::Stop;
 use scmi_codec::{Answer, Frame};
-use scmi_link::Closing;
-use scmi_script::Line;
+use scmi_link::{Closing, Line};
 use std::alloc::Global;
 
 /// What an agent posted, read and took, in order, and what came of each line of its script.
@@ -40,8 +39,8 @@ impl AgentLog {
     ghost use Rattle.scmi_threads.specs.Tokens.{command_token};
     ghost use Rattle.std.specs.Option.{option_or};
     ghost use Rattle.scmi_codec.specs.declared.header.TheConstants.{TOKENS};
-    ghost use Rattle.scmi_script.specs.Lines.{IsOfCall};
-    ghost use Rattle.scmi_script.specs.declared.line.Line.TheVariants as line;
+    ghost use Rattle.scmi_link.specs.Lines.{IsOfCall};
+    ghost use Rattle.scmi_link.specs.declared.line.Line.TheVariants as line;
     ghost use Rattle.scmi_threads.specs.Logs.{HasSameLooks, IsEmptyLog, IsSameLog};
     ghost use Rattle.scmi_threads.specs.declared.stop.Stop.TheVariants as stop;
 

@@ -1,7 +1,7 @@
 //! The order to call.
 ghost use Rattle.std.specs.Prelude.{◌≡◌, ◌<◌, ◌++◌, ◌∷◌, [], false, length, vec_len, vec_capacity, IfOk, IfErr, OnOk, OnErr};
 ghost use Rattle.scmi_link.specs.View.{knows_close};
-ghost use Rattle.scmi_script.specs.Lines.{IsOfCall, answer_line};
+ghost use Rattle.scmi_link.specs.Lines.{IsOfCall, answer_line};
 ghost use Rattle.scmi_threads.specs.Orders.{ending};
 
 use crate::limits::TURNS;
@@ -9,8 +9,7 @@ use crate::script_run::ScriptRun;
 use crate::stop::Stop;
 use scmi_codec::{Answer, Frame, Header, Message, Payload, payload_of};
 use scmi_ends::Pause;
-use scmi_link::{Channel, Collected, PostError};
-use scmi_script::Line;
+use scmi_link::{Channel, Collected, Line, PostError};
 use std::sync::Wait;
 
 /// The line of a call with this answer.
@@ -40,8 +39,8 @@ impl<'a, C: Channel> ScriptRun<'a, C> {
     ghost use Rattle.std.specs.Prelude.{◌≡◌, ◌<◌, ◌++◌, ◌∷◌, [], List, false, length, vec_len, vec_capacity, IfOk, IfErr, OnOk, OnErr};
     ghost use Rattle.scmi_codec.specs.declared.frame.Frame.{Frame};
     ghost use Rattle.scmi_link.specs.View.{knows_close};
-    ghost use Rattle.scmi_script.specs.Lines.{IsOfCall};
-    ghost use Rattle.scmi_script.specs.declared.order.Order.TheVariants as order;
+    ghost use Rattle.scmi_link.specs.Lines.{IsOfCall};
+    ghost use Rattle.scmi_link.specs.declared.order.Order.TheVariants as order;
     ghost use Rattle.scmi_threads.specs.Logs.{IsSameLog};
     ghost use Rattle.scmi_threads.specs.Orders.{HasAsked, HasAwaited, HasDone, HasWaited, IsAtRest, IsRefusal, IsUndisturbed, LeavesRest, stop_of};
     ghost use Rattle.scmi_threads.specs.Parts.{command};

@@ -2,12 +2,11 @@
 
 use crate::script_run::ScriptRun;
 use crate::stop::Stop;
-use scmi_link::Channel;
-use scmi_script::Line;
+use scmi_link::{Channel, Line};
 
 impl<'a, C: Channel> ScriptRun<'a, C> {
     ghost use Rattle.std.specs.Prelude.{◌≡◌};
-    ghost use Rattle.scmi_script.specs.declared.order.Order.TheVariants as order;
+    ghost use Rattle.scmi_link.specs.declared.order.Order.TheVariants as order;
     ghost use Rattle.scmi_threads.specs.Orders.{HasDone, IsAtRest, IsUndisturbed, stop_of};
     ghost use Rattle.scmi_threads.specs.ScriptRuns.{HasRun};
 

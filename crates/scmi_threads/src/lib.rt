@@ -28,6 +28,6 @@ pub use agent_log::AgentLog;
 pub use gate::{Gate, OpenGate};
 pub use limits::{CALLS, TURNS};
 pub use outcome::Outcome;
-pub use scmi_script::{Line, Order, Script};
+pub use scmi_link::{Line, Order, Script};
 pub use stop::Stop;
 pub use threads::{run_agents, run_agents_on};

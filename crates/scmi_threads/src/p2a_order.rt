@@ -4,14 +4,13 @@ use crate::limits::TURNS;
 use crate::script_run::ScriptRun;
 use crate::stop::Stop;
 use scmi_ends::Pause;
-use scmi_link::Channel;
-use scmi_script::Line;
+use scmi_link::{Channel, Line};
 use std::sync::Wait;
 
 impl<'a, C: Channel> ScriptRun<'a, C> {
     ghost use Rattle.std.specs.Prelude.{◌≡◌, ◌<◌, vec_len, vec_capacity, IsTrue};
     ghost use Rattle.scmi_link.specs.View.{one_more};
-    ghost use Rattle.scmi_script.specs.declared.order.Order.TheVariants as order;
+    ghost use Rattle.scmi_link.specs.declared.order.Order.TheVariants as order;
     ghost use Rattle.scmi_threads.specs.Logs.{IsSameLog};
     ghost use Rattle.scmi_threads.specs.Orders.{HasDone, HasLookedFor, HasTaken, IsUnmoved, TakesOne, stop_of};
     ghost use Rattle.scmi_threads.specs.ScriptRuns.{HasRun};

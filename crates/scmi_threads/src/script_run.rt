@@ -8,8 +8,7 @@ use crate::agent_log::AgentLog;
 use crate::gate::Gate;
 use crate::stop::Stop;
 use scmi_ends::{AgentEnd, Link, Processors};
-use scmi_link::Channel;
-use scmi_script::Order;
+use scmi_link::{Channel, Order};
 use std::alloc::Global;
 use std::sync::Wait;
 

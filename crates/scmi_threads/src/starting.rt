@@ -1,7 +1,7 @@
 //! How the runs of the scripts begin, and how they end.
 ghost use Rattle.std.specs.Prelude.{◌≡◌, ◌≤◌, [], map, vec_len, vec_capacity, IfOk};
 ghost use Rattle.std.specs.List.{AllZip};
-ghost use Rattle.scmi_script.specs.Scripts.{orders_of};
+ghost use Rattle.scmi_link.specs.Scripts.{orders_of};
 ghost use Rattle.scmi_ends.specs.Each.{AllFrom};
 ghost use Rattle.scmi_ends.specs.AgentView.{IsNewAgent};
 ghost use Rattle.scmi_ends.specs.Links.{AreEndsOf, identities_of_a2p, identities_of_p2a};
@@ -11,8 +11,7 @@ ghost use Rattle.scmi_threads.specs.ScriptRuns.{IsStarted};
 use crate::agent_log::AgentLog;
 use crate::script_run::ScriptRun;
 use scmi_ends::{AgentEnd, Link, Processors};
-use scmi_link::Channel;
-use scmi_script::{Order, Script};
+use scmi_link::{Channel, Order, Script};
 use std::alloc::{AllocError, Global};
 
 /// The run of a script for each agent, in order, with its link and its script, on these processors.

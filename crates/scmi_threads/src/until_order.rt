@@ -6,8 +6,7 @@ use crate::limits::CALLS;
 use crate::script_run::ScriptRun;
 use crate::stop::Stop;
 use scmi_codec::{Command, PowerCommand, SUCCESS};
-use scmi_link::Channel;
-use scmi_script::Line;
+use scmi_link::{Channel, Line};
 use std::sync::Wait;
 
 /// Whether the line reports a reply.
@@ -29,7 +28,7 @@ fn shows_state(line: &Line, state: u32) -> bool
 
 impl<'a, C: Channel> ScriptRun<'a, C> {
     ghost use Rattle.std.specs.Prelude.{◌≡◌, ◌∷◌, [], length, IfOk, IfErr, OnErr};
-    ghost use Rattle.scmi_script.specs.declared.order.Order.TheVariants as order;
+    ghost use Rattle.scmi_link.specs.declared.order.Order.TheVariants as order;
     ghost use Rattle.scmi_threads.specs.Logs.{IsSameLog};
     ghost use Rattle.scmi_threads.specs.Parts.{command};
     ghost use Rattle.scmi_threads.specs.declared.stop.Stop.TheVariants as stop;

@@ -1,6 +1,6 @@
 //! The surface of `scmi_run`, whose library is `scmi_modes`.
 ghost use Rattle.std.specs.Prelude.{length};
-ghost use Rattle.scmi_script.specs.Scripts.{AreScriptsOf};
+ghost use Rattle.scmi_link.specs.Scripts.{AreScriptsOf};
 
 use scmi_codec::{Answer, Frame, Payload};
 use scmi_core::Trace;

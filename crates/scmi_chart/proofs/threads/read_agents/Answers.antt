@@ -3,7 +3,7 @@ use Rattle.std.proofs.lemmas.List.{length-map}
 use Rattle.scmi_board.specs.BoardText.{board_left}
 use Rattle.scmi_board.specs.Lines.{lines_left}
 use Rattle.scmi_plan.specs.RawPlan.{asked_board}
-use Rattle.scmi_script.specs.Scripts.{AreScriptsOf}
+use Rattle.scmi_link.specs.Scripts.{AreScriptsOf}
 use Rattle.scmi_text.specs.ScriptText.{scripts_of, with_line}
 use Rattle.scmi_text.specs.TextLines.{after_lines}
 use Rattle.scmi_chart.proofs.Inputs.{lines_same}

@@ -1,5 +1,5 @@
 use Rattle.std.proofs.Common.{◌≡◌, drop}
-use Rattle.scmi_script.specs.Scripts.{orders_of}
+use Rattle.scmi_link.specs.Scripts.{orders_of}
 use Rattle.scmi_threads.proofs.starting.script_of.Given as goal
 
 abbrev pub invariant-loop-script : goal.invariant-loop-script

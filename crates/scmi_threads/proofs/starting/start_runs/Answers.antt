@@ -1,5 +1,5 @@
 use Rattle.std.proofs.lemmas.List.{length-append}
-use Rattle.scmi_script.specs.Scripts.{orders_of}
+use Rattle.scmi_link.specs.Scripts.{orders_of}
 use Rattle.scmi_ends.specs.Each.{AllFrom}
 use Rattle.scmi_threads.proofs.Started.{first_new, all_push}
 use Rattle.std.proofs.Common.{◌≡◌, ◌+◌, ◌∷◌, [], length, arith, map, ap, sym, ◌∙◌, subst}

@@ -6,7 +6,7 @@ use Rattle.scmi_threads.specs.ScriptRuns.{HasPlayed}
 use Rattle.std.specs.List.{All}
 use Rattle.std.proofs.lemmas.List.Elements.{All-weaker}
 use Rattle.scmi_plan.specs.Plan.{IsValid}
-use Rattle.scmi_script.specs.Scripts.{orders_of}
+use Rattle.scmi_link.specs.Scripts.{orders_of}
 use Rattle.scmi_ends.specs.Each.{AllFrom}
 use Rattle.scmi_ends.specs.Links.{identities_of_a2p, identities_of_p2a}
 use Rattle.scmi_threads.specs.Orders.{IsUndisturbed}

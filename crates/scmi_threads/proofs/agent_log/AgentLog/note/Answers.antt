@@ -1,4 +1,4 @@
-use Rattle.scmi_script.proofs.LineLemmas.{closing_stays, messages_stay}
+use Rattle.scmi_link.proofs.LineLemmas.{closing_stays, messages_stay}
 use Rattle.scmi_threads.proofs.agent_log.AgentLog.note.Goals as goal
 
 pub invariant_of-self-clause-messages_are : goal.invariant_of-self-clause-messages_are

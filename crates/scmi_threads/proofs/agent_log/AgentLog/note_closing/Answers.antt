@@ -1,6 +1,6 @@
 use Rattle.std.proofs.Common.{refl}
-use Rattle.scmi_script.specs.declared.line.Line.TheVariants as line
-use Rattle.scmi_script.proofs.LineLemmas.{closing_push, messages_stay}
+use Rattle.scmi_link.specs.declared.line.Line.TheVariants as line
+use Rattle.scmi_link.proofs.LineLemmas.{closing_push, messages_stay}
 use Rattle.scmi_threads.proofs.agent_log.AgentLog.note_closing.Goals as goal
 
 pub invariant_of-self-clause-messages_are : goal.invariant_of-self-clause-messages_are

@@ -1,5 +1,5 @@
 use Rattle.std.proofs.Common.{ap, rules, subst, sym}
-use Rattle.scmi_script.specs.declared.order.Order.TheVariants as order
+use Rattle.scmi_link.specs.declared.order.Order.TheVariants as order
 use Rattle.scmi_threads.specs.Orders.{HasDone, stop_of, ending}
 use Rattle.scmi_threads.proofs.OrderLemmas.{nothing_done, done_since, call_done, still_rests}
 use Rattle.scmi_threads.proofs.script_run.ScriptRun.call.Goals as goal

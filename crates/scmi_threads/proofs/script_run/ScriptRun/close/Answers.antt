@@ -2,8 +2,8 @@ use Rattle.std.proofs.Common.{◌≡◌, ◌∙◌, length, sym, ap, rules, Ok, 
 use Rattle.scmi_link.specs.declared.closing.Closing.{Closing}
 use Rattle.scmi_link.specs.declared.closing.Closing.TheVariants as closing
 use Rattle.scmi_link.specs.Calls.{ClosesCaller}
-use Rattle.scmi_script.specs.declared.line.Line.TheVariants as line
-use Rattle.scmi_script.specs.declared.order.Order.TheVariants as order
+use Rattle.scmi_link.specs.declared.line.Line.TheVariants as line
+use Rattle.scmi_link.specs.declared.order.Order.TheVariants as order
 use Rattle.scmi_threads.proofs.OrderLemmas.{nothing_done, noted_since, close_noted}
 use Rattle.scmi_threads.proofs.script_run.ScriptRun.close.Goals as goal
 

@@ -1,6 +1,6 @@
 use Rattle.std.proofs.Common.{true, false, ap, refl, rules, subst, Ok}
-use Rattle.scmi_script.specs.declared.line.Line.TheVariants as line
-use Rattle.scmi_script.specs.declared.order.Order.TheVariants as order
+use Rattle.scmi_link.specs.declared.line.Line.TheVariants as line
+use Rattle.scmi_link.specs.declared.order.Order.TheVariants as order
 use Rattle.scmi_threads.specs.Orders.{HasLooked, stop_of}
 use Rattle.scmi_threads.specs.declared.stop.Stop.TheVariants as stop
 use Rattle.std.proofs.Common.{None, Some}

@@ -5,9 +5,9 @@ use Rattle.std.proofs.lemmas.List.{append-nil}
 use Rattle.std.proofs.lemmas.List.Elements.{filter_map-append}
 use Rattle.scmi_codec.specs.declared.frame.Frame.{Frame}
 use Rattle.scmi_link.specs.declared.closing.Closing.{Closing}
-use Rattle.scmi_script.specs.declared.line.Line.{Line}
-use Rattle.scmi_script.specs.declared.line.Line.TheVariants as line
-use Rattle.scmi_script.specs.Lines.{message_of, closing_of, messages_of, first_closing}
+use Rattle.scmi_link.specs.declared.line.Line.{Line}
+use Rattle.scmi_link.specs.declared.line.Line.TheVariants as line
+use Rattle.scmi_link.specs.Lines.{message_of, closing_of, messages_of, first_closing}
 
 pub or_again : (a b c : Option Closing) → option_or (option_or a b) c ≡ option_or a (option_or b c)
 or_again None b c = refl

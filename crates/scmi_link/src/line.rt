@@ -1,6 +1,8 @@
 //! What came of an order.
+use crate::close_error::CloseError;
+use crate::closing::Closing;
+use crate::post_error::PostError;
 use scmi_codec::{Frame, Payload};
-use scmi_link::{CloseError, Closing, PostError};
 
 /// One line of what an agent's script did.
 #[derive(PartialEq, Eq, Debug, Drop)]

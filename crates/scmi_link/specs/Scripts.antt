@@ -1,9 +1,9 @@
 -- The scripts of a run, and their orders.
 use Rattle.std.specs.Prelude.{◌≡◌, ◌==◌, ℕ, ◌≤◌, Bool, true, false, if◌then◌else◌, List, [], ◌∷◌, map, nat_eq}
 use Rattle.std.specs.List.{All, IsDistinct}
-use Rattle.scmi_script.specs.declared.order.Order.{Order}
-use Rattle.scmi_script.specs.declared.order.Order.TheVariants as order
-use Rattle.scmi_script.specs.declared.script.Script.{Script}
+use Rattle.scmi_link.specs.declared.order.Order.{Order}
+use Rattle.scmi_link.specs.declared.order.Order.TheVariants as order
+use Rattle.scmi_link.specs.declared.script.Script.{Script}
 
 -- each script is of one of these agents, numbered from 1, and no two are of the same
 pub record AreScriptsOf (agents : ℕ) (scripts : List Script) : Type 0 where
