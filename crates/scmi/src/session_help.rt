@@ -23,19 +23,21 @@ macro_rules! rows {
 }
 
 /// The lines of a session.
-const ROWS: [HelpRow; 16] = rows![
+const ROWS: [HelpRow; 18] = rows![
     "do" "AGENT MESSAGE .." "the agent posts a command, the platform executes it, the agent reads the reply";
     "call" "AGENT MESSAGE .." "the agent posts a command; serve and collect follow";
     "fail" "AGENT MESSAGE .." "as do, but the hardware refuses each change that the command would make";
+    "refuse" "AGENT STATUS MESSAGE .." "as fail, with a status that the hardware gives, such as DENIED";
     "serve" "AGENT" "the platform executes the command that the agent posted";
     "collect" "AGENT" "the agent looks for its reply";
-    "advance" "[failed]" "the platform completes its next asynchronous set; failed: the hardware refuses it";
+    "advance" "[failed|refused STATUS]" "the platform completes its next asynchronous set, or the hardware refuses it";
     "flush" "AGENT" "the platform posts its next message for the agent: a notification or a delayed response";
     "p2a" "AGENT" "the agent reads that message";
     "raw" "AGENT HEADER WORD .." "the agent posts a message with this header, in numbers";
     "bad" "AGENT LENGTH HEADER" "the agent posts a malformed frame";
     "close" "AGENT" "the agent closes its channels";
     "shut" "AGENT" "the platform closes the agent's channels";
+    "report" "state DOMAIN STATE|rate CLOCK RATE|enabled CLOCK on|off" "the hardware changed it by itself";
     "restart" "AGENT" "the agent restarted: the platform ends what the agent asked for";
     "words" "on|off" "replies are described, or are not";
     "help" "[WORD]" "WORD is one of these, a message, messages, board or all";
@@ -43,7 +45,9 @@ const ROWS: [HelpRow; 16] = rows![
 ];
 
 /// Words that items may be on every board, besides the names of flags.
-const WORDS: [&str; 6] = ["base", "power", "clock", "on", "off", "failed"];
+const WORDS: [&str; 10] = [
+    "base", "power", "clock", "on", "off", "failed", "refused", "state", "rate", "enabled",
+];
 
 /// Parts whose flags have names; those of a power domain's set are among those of a rate's.
 const FLAGS: [Part; 3] = [Part::RateFlags, Part::PermitFlags, Part::ResetFlags];
