@@ -286,7 +286,7 @@ static inline uint32_t scmi_platform_new_of(scmi_platform *platform, const scmi_
 #define SCMI_PLATFORM_BYTES(agents, domains, clocks, rates, devices) \
     (SCMI_PLATFORM_ALONE + 24 * (size_t)(agents) + 32 * (size_t)(domains) + 72 * (size_t)(clocks) + \
      8 * (size_t)(rates) + 8 * (size_t)(devices))
-#define SCMI_PLATFORM_ALONE ((size_t)6392)
+#define SCMI_PLATFORM_ALONE ((size_t)6400)
 
 static inline size_t scmi_platform_bytes(const scmi_board *board)
 {

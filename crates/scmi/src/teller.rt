@@ -9,8 +9,8 @@ use crate::session_help::report_help;
 use crate::unknown_text::UnknownText;
 use scmi_explain::{Expected, Fault, LastLine, explain};
 use scmi_io::{FAILED_OUTPUT, write_fault};
-use scmi_live::{Listener, LiveError, PlainStep, unknown_in};
-use scmi_text::{Step, StepLine, write_step_line};
+use scmi_live::{Listener, LiveError, unknown_in};
+use scmi_text::{PlainStep, Step, StepLine, write_step_line};
 use std::alloc::Global;
 use std::io::{Eprint, Write};
 

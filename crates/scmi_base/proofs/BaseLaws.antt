@@ -62,7 +62,7 @@ protocol-trusted false false false true c5 false ok = absurd (cc)
 protocol-trusted false false false false true false ok = absurd (cc)
 protocol-trusted false false false false false false ok = absurd (cc)
 
-reset-trusted : (c1 c2 trusted : Bool) → begins_with_success (reply_unless ((c1, NotFound) ∷ (c2, InvalidParameters) ∷ (not trusted, Denied) ∷ []) (0 ∷ [])) ≡ true → trusted ≡ true
+pub reset-trusted : (c1 c2 trusted : Bool) → begins_with_success (reply_unless ((c1, NotFound) ∷ (c2, InvalidParameters) ∷ (not trusted, Denied) ∷ []) (0 ∷ [])) ≡ true → trusted ≡ true
 reset-trusted c1 c2 true ok = refl
 reset-trusted true c2 false ok = absurd (cc)
 reset-trusted false true false ok = absurd (cc)

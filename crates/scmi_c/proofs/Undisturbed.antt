@@ -1,4 +1,5 @@
 -- What becomes of a command with an effect is the same after an event that does not disturb it.
+use Rattle.std.proofs.lemmas.Bool.{or_parts}
 use Rattle.std.proofs.Common.{rules, tests, ◌≡◌, ℕ, ◌≤◌, ◌||◌, Bool, true, false, List, [], ◌∷◌, ◌++◌, length, drop, option_map, Option, Some, None, IfSome, Result, Ok, Err, IfOk, unwrap_or, refl, sym, ap, subst, ◌∙◌, if◌then◌else◌, arith}
 use Rattle.std.specs.Prelude.{⊤}
 use Rattle.std.specs.Option.{option_and_then, option_map_or, option_to_list}
@@ -161,10 +162,6 @@ or_false : (b : Bool) → (b || false) ≡ b
 or_false true = refl
 or_false false = refl
 
-parts : (x y : Bool) → (x || y) ≡ false → (x ≡ false) × (y ≡ false)
-parts true y off = absurd (let it : true ≡ false = off in cc)
-parts false y off = (refl, off)
-
 -- what is left pending, and one more set, if it is of another domain or clock
 with-more : (r : Resource) (pending more : List PendingSet) → has_set_of r more ≡ false → has_set_of r pending ≡ false → has_set_of r (pending ++ more) ≡ false
 with-more r pending more other none =
@@ -173,7 +170,7 @@ with-more r pending more other none =
 -- without the first
 without-first : (r : Resource) (pending : List PendingSet) → has_set_of r pending ≡ false → has_set_of r (drop 1 pending) ≡ false
 without-first r [] none = refl
-without-first r (set ∷ sets) none = (parts (is_set_by r set.setting) (has_set_of r sets) none).1
+without-first r (set ∷ sets) none = (or_parts (is_set_by r set.setting) (has_set_of r sets) none).1
 
 -- the situation after it is as before, as far as such a command is concerned
 module _ (board : Board) (b : ℕ) (s : Situation) (r : Resource) (deed : Deed) (quiet : IsQuiet board r deed) where
@@ -294,7 +291,7 @@ pub quiet-plain : (board : Board) (h : List Event) (a : ℕ) (m : Message) (chan
     → IsQuiet board (resource_changed change) (deed_after board (deeds board h) (Called a (Good m)))
 quiet-plain board h a m change plain =
     let words = words_given board a (situation_after board a (deeds board h)) m in
-    let two = parts (is_permission m.header) (option_map_or (is_change_of (numbers_of change)) (set_of m) false) plain in
+    let two = or_parts (is_permission m.header) (option_map_or (is_change_of (numbers_of change)) (set_of m) false) plain in
     let says = on board m (Says m) (says-read m) in
     record {
       permits = permits-with board a m (begins_with_success words) (command_on board m) says two.0;

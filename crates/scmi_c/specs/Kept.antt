@@ -52,6 +52,14 @@ pub record Kept : Type 0 where
 abbrev pub aside_of : Kept → ℕ → Option Asked
 aside_of k = aside_by k.aside
 
+-- a platform before a call, and the same after it
+abbrev pub BeforeAfter : Option Kept → Option Kept → (Kept → Kept → Type 0) → Type 0
+BeforeAfter old new P = IsSomeAnd old (λ p. IsSomeAnd new (λ k. P p k))
+
+-- the same of one that had asked, with the command that it had asked about
+abbrev pub OfAsked : Option Kept → Option Kept → (Kept → Kept → Asked → Type 0) → Type 0
+OfAsked old new P = BeforeAfter old new (λ p k. IsSomeAnd p.asked (λ asked. P p k asked))
+
 -- a command was asked about, and is neither committed nor failed
 abbrev pub IsAsked : Kept → Type 0
 IsAsked k = k.asked ≢ None

@@ -4,7 +4,7 @@ ghost use Rattle.scmi_codec.specs.Area.{frame_waiting};
 ghost use Rattle.scmi_core.specs.History.{IsIdle};
 ghost use Rattle.scmi_core.specs.declared.event.Event.{Event};
 ghost use Rattle.scmi_core.specs.declared.event.Event.TheVariants.{Advance};
-ghost use Rattle.scmi_c.specs.Kept.{HasSameAside, IsAsked, IsBusy, IsFree, IsUnasked};
+ghost use Rattle.scmi_c.specs.Kept.{BeforeAfter, HasSameAside, IsAsked, IsBusy, IsFree, IsUnasked};
 ghost use Rattle.scmi_c.specs.Standing.{LacksAgent, StandsAt, board_of};
 ghost use Rattle.scmi_c.specs.Calls.{HasAnswered, HasHappened};
 ghost use Rattle.scmi_c.specs.Driven.{Drives, IsUnsaid};
@@ -30,15 +30,13 @@ pub extern "C" fn scmi_answer(
     area: &mut [u8; AREA_BYTES],
 ) -> u32
     ensures done { result ≡ DONE →
-        IsSomeAnd platform.old.value (λ p.
-        IsSomeAnd platform.new.value (λ k.
+        BeforeAfter platform.old.value platform.new.value (λ p k.
         IsSomeAnd (frame_waiting area.old) (λ frame. IsUnasked k
-        × HasAnswered p.held k.held agent frame area.old area.new))) }
+        × HasAnswered p.held k.held agent frame area.old area.new)) }
     ensures unsaid { result ≡ DONE →
-        IsSomeAnd platform.old.value (λ p.
-        IsSomeAnd platform.new.value (λ k.
+        BeforeAfter platform.old.value platform.new.value (λ p k.
         IsSomeAnd (frame_waiting area.old) (λ frame.
-        IsUnsaid p.held k.held agent frame))) }
+        IsUnsaid p.held k.held agent frame)) }
     ensures aside { HasSameAside platform.old.value platform.new.value }
     ensures no_platform { (result ≡ NO_PLATFORM) ↔ (platform.old.value ≡ None) }
     ensures asked { (result ≡ ASKED) ↔ IsSomeAnd platform.old.value IsBusy }
@@ -68,12 +66,11 @@ pub extern "C" fn scmi_answer(
 #[unsafe(no_mangle)]
 pub extern "C" fn scmi_advance(alloc: Global, platform: &mut Handle) -> u32
     ensures done { result ≡ DONE →
-        IsSomeAnd platform.old.value (λ p.
-        IsSomeAnd platform.new.value (λ k.
-        IsUnasked k × HasHappened p.held k.held Advance)) }
+        BeforeAfter platform.old.value platform.new.value (λ p k.
+        IsUnasked k × HasHappened p.held k.held Advance) }
     ensures driven { result ≡ DONE →
-        IsSomeAnd platform.old.value (λ p.
-        IsSomeAnd platform.new.value (λ k. Drives p.held k.held Advance)) }
+        BeforeAfter platform.old.value platform.new.value (λ p k.
+        Drives p.held k.held Advance) }
     ensures nothing { IfSome platform.old.value (λ p. IsUnasked p →
         (h : List Event) → StandsAt p.held h →
         (result ≡ NOTHING) ↔ IsIdle (board_of p.held) h) }

@@ -3,7 +3,7 @@ ghost use Rattle.std.specs.Prelude.{◌≡◌, ◌≢◌, ◌↔◌, ◌⊎◌, 
 ghost use Rattle.scmi_codec.specs.ChannelArea.{channel_waiting};
 ghost use Rattle.scmi_core.specs.declared.event.Event.{Event};
 ghost use Rattle.scmi_c.specs.Calls.{HasAnswered, HasNext, HasPosted, LacksNext};
-ghost use Rattle.scmi_c.specs.Kept.{HasSameAside, IsBusy, IsFree, IsUnasked};
+ghost use Rattle.scmi_c.specs.Kept.{BeforeAfter, HasSameAside, IsBusy, IsFree, IsUnasked};
 ghost use Rattle.scmi_c.specs.Channel.{HasAnotherSize, HasSize, IsFreeOf};
 ghost use Rattle.scmi_c.specs.Driven.{IsUnsaid};
 ghost use Rattle.scmi_c.specs.Standing.{LacksAgent, StandsAt, board_of};
@@ -26,15 +26,13 @@ pub extern "C" fn scmi_answer_in(
     area: &mut [u8],
 ) -> u32
     ensures done { result ≡ DONE →
-        IsSomeAnd platform.old.value (λ p.
-        IsSomeAnd platform.new.value (λ k.
+        BeforeAfter platform.old.value platform.new.value (λ p k.
         IsSomeAnd (channel_waiting area.old) (λ frame. IsUnasked k
-        × HasAnswered p.held k.held agent frame area.old area.new))) }
+        × HasAnswered p.held k.held agent frame area.old area.new)) }
     ensures unsaid { result ≡ DONE →
-        IsSomeAnd platform.old.value (λ p.
-        IsSomeAnd platform.new.value (λ k.
+        BeforeAfter platform.old.value platform.new.value (λ p k.
         IsSomeAnd (channel_waiting area.old) (λ frame.
-        IsUnsaid p.held k.held agent frame))) }
+        IsUnsaid p.held k.held agent frame)) }
     ensures aside { HasSameAside platform.old.value platform.new.value }
     ensures no_platform { (result ≡ NO_PLATFORM) ↔ (platform.old.value ≡ None) }
     ensures asked { (result ≡ ASKED) ↔ IsSomeAnd platform.old.value IsBusy }

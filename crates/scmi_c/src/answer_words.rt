@@ -1,7 +1,7 @@
 //! Commands as the words of their messages are executed.
 ghost use Rattle.std.specs.Prelude.{◌≡◌, ◌≢◌, ◌↔◌, ◌⊎◌, None, IsSomeAnd, length};
 ghost use Rattle.scmi_c.specs.Driven.{IsUnsaid};
-ghost use Rattle.scmi_c.specs.Kept.{HasSameAside, IsBusy, IsFree, IsUnasked};
+ghost use Rattle.scmi_c.specs.Kept.{BeforeAfter, HasSameAside, IsBusy, IsFree, IsUnasked};
 ghost use Rattle.scmi_c.specs.Standing.{LacksAgent};
 ghost use Rattle.scmi_c.specs.Words.{HasAnsweredWords, LacksWords, frame_in};
 ghost use Rattle.scmi_c.specs.declared.code.TheConstants.{ASKED, DONE, NO_AGENT, NO_PLATFORM, WRONG_SIZE};
@@ -29,14 +29,13 @@ pub extern "C" fn scmi_answer_words(
     count: &mut u32,
 ) -> u32
     ensures done { result ≡ DONE →
-        IsSomeAnd platform.old.value (λ p.
-        IsSomeAnd platform.new.value (λ k. IsUnasked k
+        BeforeAfter platform.old.value platform.new.value (λ p k.
+        IsUnasked k
         × HasAnsweredWords p.held k.held agent (frame_in message.now)
-        count.new reply.old reply.new)) }
+        count.new reply.old reply.new) }
     ensures unsaid { result ≡ DONE →
-        IsSomeAnd platform.old.value (λ p.
-        IsSomeAnd platform.new.value (λ k.
-        IsUnsaid p.held k.held agent (frame_in message.now))) }
+        BeforeAfter platform.old.value platform.new.value (λ p k.
+        IsUnsaid p.held k.held agent (frame_in message.now)) }
     ensures aside { HasSameAside platform.old.value platform.new.value }
     ensures no_platform { (result ≡ NO_PLATFORM) ↔ (platform.old.value ≡ None) }
     ensures asked { (result ≡ ASKED) ↔ IsSomeAnd platform.old.value IsBusy }

@@ -8,7 +8,7 @@ ghost use Rattle.scmi_core.specs.declared.event.Event.TheVariants.{Command as Ca
 ghost use Rattle.scmi_c.specs.Driven.{Drives};
 ghost use Rattle.scmi_c.specs.Effect.{numbers_of};
 ghost use Rattle.scmi_c.specs.Aside.{IsHeldBack};
-ghost use Rattle.scmi_c.specs.Kept.{HasAsked, HasSameAside, IsAsked, IsUnasked};
+ghost use Rattle.scmi_c.specs.Kept.{BeforeAfter, HasAsked, HasSameAside, IsAsked, IsUnasked};
 ghost use Rattle.scmi_c.specs.Other.{IsOther};
 ghost use Rattle.scmi_c.specs.Standing.{LacksAgent, StandsAt, board_of};
 ghost use Rattle.scmi_c.specs.Calls.{ChangesNothing, HasAnswered};
@@ -39,25 +39,22 @@ pub extern "C" fn scmi_ask(
     effect: &mut EffectNumbers,
 ) -> u32
     ensures done { result ≡ DONE →
-        IsSomeAnd platform.old.value (λ p.
-        IsSomeAnd platform.new.value (λ k.
+        BeforeAfter platform.old.value platform.new.value (λ p k.
         IsSomeAnd (frame_waiting area.old) (λ frame. IsUnasked k
-        × HasAnswered p.held k.held agent frame area.old area.new))) }
+        × HasAnswered p.held k.held agent frame area.old area.new)) }
     ensures driven { result ≡ DONE →
-        IsSomeAnd platform.old.value (λ p.
-        IsSomeAnd platform.new.value (λ k.
+        BeforeAfter platform.old.value platform.new.value (λ p k.
         IsSomeAnd (frame_waiting area.old) (λ frame.
-        Drives p.held k.held (Called agent frame)))) }
+        Drives p.held k.held (Called agent frame))) }
     ensures nothing { result ≡ DONE →
         IsSomeAnd platform.old.value (λ p.
         IsSomeAnd (frame_waiting area.old) (λ frame.
         (h : List Event) → StandsAt p.held h →
         ChangesNothing (board_of p.held) agent frame h)) }
     ensures asks { result ≡ EFFECT →
-        IsSomeAnd platform.old.value (λ p.
-        IsSomeAnd platform.new.value (λ k.
+        BeforeAfter platform.old.value platform.new.value (λ p k.
         IsSomeAnd (frame_waiting area.old) (λ frame.
-        HasAsked p.held k agent frame AREA_BYTES))) }
+        HasAsked p.held k agent frame AREA_BYTES)) }
     ensures effect { result ≡ EFFECT →
         IsSomeAnd platform.old.value (λ p.
         IsSomeAnd (frame_waiting area.old) (λ frame.

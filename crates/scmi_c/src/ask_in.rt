@@ -7,7 +7,7 @@ ghost use Rattle.scmi_core.specs.declared.event.Event.TheVariants.{Command as Ca
 ghost use Rattle.scmi_c.specs.Driven.{Drives};
 ghost use Rattle.scmi_c.specs.Effect.{numbers_of};
 ghost use Rattle.scmi_c.specs.Aside.{IsHeldBack};
-ghost use Rattle.scmi_c.specs.Kept.{HasAsked, HasSameAside, IsAsked, IsUnasked};
+ghost use Rattle.scmi_c.specs.Kept.{BeforeAfter, HasAsked, HasSameAside, IsAsked, IsUnasked};
 ghost use Rattle.scmi_c.specs.Standing.{LacksAgent, StandsAt, board_of};
 ghost use Rattle.scmi_c.specs.Calls.{ChangesNothing, HasAnswered};
 ghost use Rattle.scmi_c.specs.Channel.{HasAnotherSize, HasSize, IsFreeOf};
@@ -33,25 +33,22 @@ pub extern "C" fn scmi_ask_in(
     effect: &mut EffectNumbers,
 ) -> u32
     ensures done { result ≡ DONE →
-        IsSomeAnd platform.old.value (λ p.
-        IsSomeAnd platform.new.value (λ k.
+        BeforeAfter platform.old.value platform.new.value (λ p k.
         IsSomeAnd (channel_waiting area.old) (λ frame. IsUnasked k
-        × HasAnswered p.held k.held agent frame area.old area.new))) }
+        × HasAnswered p.held k.held agent frame area.old area.new)) }
     ensures driven { result ≡ DONE →
-        IsSomeAnd platform.old.value (λ p.
-        IsSomeAnd platform.new.value (λ k.
+        BeforeAfter platform.old.value platform.new.value (λ p k.
         IsSomeAnd (channel_waiting area.old) (λ frame.
-        Drives p.held k.held (Called agent frame)))) }
+        Drives p.held k.held (Called agent frame))) }
     ensures nothing { result ≡ DONE →
         IsSomeAnd platform.old.value (λ p.
         IsSomeAnd (channel_waiting area.old) (λ frame.
         (h : List Event) → StandsAt p.held h →
         ChangesNothing (board_of p.held) agent frame h)) }
     ensures asks { result ≡ EFFECT →
-        IsSomeAnd platform.old.value (λ p.
-        IsSomeAnd platform.new.value (λ k.
+        BeforeAfter platform.old.value platform.new.value (λ p k.
         IsSomeAnd (channel_waiting area.old) (λ frame.
-        HasAsked p.held k agent frame (length area.old)))) }
+        HasAsked p.held k agent frame (length area.old))) }
     ensures effect { result ≡ EFFECT →
         IsSomeAnd platform.old.value (λ p.
         IsSomeAnd (channel_waiting area.old) (λ frame.

@@ -8,7 +8,7 @@ ghost use Rattle.scmi_c.specs.Channel.{bytes_of};
 ghost use Rattle.scmi_c.specs.Driven.{Drives};
 ghost use Rattle.scmi_c.specs.Effect.{numbers_of};
 ghost use Rattle.scmi_c.specs.Aside.{IsHeldBack};
-ghost use Rattle.scmi_c.specs.Kept.{HasAsked, HasSameAside, IsAsked, IsUnasked};
+ghost use Rattle.scmi_c.specs.Kept.{BeforeAfter, HasAsked, HasSameAside, IsAsked, IsUnasked};
 ghost use Rattle.scmi_c.specs.Other.{is_other};
 ghost use Rattle.scmi_c.specs.Standing.{LacksAgent, StandsAt, board_of};
 ghost use Rattle.scmi_c.specs.Words.{FitsWords, HasAnsweredWords, LacksWords, frame_in};
@@ -37,22 +37,20 @@ pub extern "C" fn scmi_ask_words(
     effect: &mut EffectNumbers,
 ) -> u32
     ensures done { result ≡ DONE →
-        IsSomeAnd platform.old.value (λ p.
-        IsSomeAnd platform.new.value (λ k. IsUnasked k
+        BeforeAfter platform.old.value platform.new.value (λ p k.
+        IsUnasked k
         × HasAnsweredWords p.held k.held agent (frame_in message.now)
-        count.new reply.old reply.new)) }
+        count.new reply.old reply.new) }
     ensures driven { result ≡ DONE →
-        IsSomeAnd platform.old.value (λ p.
-        IsSomeAnd platform.new.value (λ k.
-        Drives p.held k.held (Called agent (frame_in message.now)))) }
+        BeforeAfter platform.old.value platform.new.value (λ p k.
+        Drives p.held k.held (Called agent (frame_in message.now))) }
     ensures nothing { result ≡ DONE →
         IsSomeAnd platform.old.value (λ p.
         (h : List Event) → StandsAt p.held h →
         ChangesNothing (board_of p.held) agent (frame_in message.now) h) }
     ensures asks { result ≡ EFFECT →
-        IsSomeAnd platform.old.value (λ p.
-        IsSomeAnd platform.new.value (λ k.
-        HasAsked p.held k agent (frame_in message.now) (bytes_of agent p.held))) }
+        BeforeAfter platform.old.value platform.new.value (λ p k.
+        HasAsked p.held k agent (frame_in message.now) (bytes_of agent p.held)) }
     ensures effect { result ≡ EFFECT →
         IsSomeAnd platform.old.value (λ p.
         (h : List Event) → StandsAt p.held h →

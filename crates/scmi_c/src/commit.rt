@@ -6,7 +6,7 @@ ghost use Rattle.scmi_core.specs.declared.event.Event.TheVariants.{Command as Ca
 ghost use Rattle.scmi_codec.specs.declared.fault.Fault.TheVariants.{HardwareError};
 ghost use Rattle.scmi_c.specs.Calls.{HasAnswered, HasFailed};
 ghost use Rattle.scmi_c.specs.Driven.{Drives, Says};
-ghost use Rattle.scmi_c.specs.Kept.{HasSameAside, IsUnasked};
+ghost use Rattle.scmi_c.specs.Kept.{HasSameAside, IsUnasked, OfAsked};
 ghost use Rattle.scmi_c.specs.declared.code.TheConstants.{DONE, NOTHING, NO_PLATFORM, WRONG_SIZE};
 
 use crate::commit_in::{scmi_commit_in, scmi_fail_in};
@@ -26,19 +26,15 @@ pub extern "C" fn scmi_commit(
     area: &mut [u8; AREA_BYTES],
 ) -> u32
     ensures done { result ≡ DONE →
-        IsSomeAnd platform.old.value (λ p.
-        IsSomeAnd platform.new.value (λ k.
-        IsSomeAnd p.asked (λ asked. IsUnasked k
-        × HasAnswered p.held k.held asked.agent asked.frame area.old area.new))) }
+        OfAsked platform.old.value platform.new.value (λ p k asked.
+        IsUnasked k
+        × HasAnswered p.held k.held asked.agent asked.frame area.old area.new) }
     ensures driven { result ≡ DONE →
-        IsSomeAnd platform.old.value (λ p.
-        IsSomeAnd platform.new.value (λ k.
-        IsSomeAnd p.asked (λ asked.
-        Drives p.held k.held (Called asked.agent asked.frame)))) }
+        OfAsked platform.old.value platform.new.value (λ p k asked.
+        Drives p.held k.held (Called asked.agent asked.frame)) }
     ensures said { result ≡ DONE →
-        IsSomeAnd platform.old.value (λ p.
-        IsSomeAnd platform.new.value (λ k.
-        IsSomeAnd p.asked (λ asked. Says Made asked.change p.held k.held))) }
+        OfAsked platform.old.value platform.new.value (λ p k asked.
+        Says Made asked.change p.held k.held) }
     ensures aside { HasSameAside platform.old.value platform.new.value }
     ensures no_platform { (result ≡ NO_PLATFORM) ↔ (platform.old.value ≡ None) }
     ensures nothing { (result ≡ NOTHING) ↔ IsSomeAnd platform.old.value IsUnasked }
@@ -64,20 +60,15 @@ pub extern "C" fn scmi_fail(
     area: &mut [u8; AREA_BYTES],
 ) -> u32
     ensures done { result ≡ DONE →
-        IsSomeAnd platform.old.value (λ p.
-        IsSomeAnd platform.new.value (λ k.
-        IsSomeAnd p.asked (λ asked. IsUnasked k
-        × HasFailed p.held k.held asked.agent asked.frame HardwareError area.old area.new))) }
+        OfAsked platform.old.value platform.new.value (λ p k asked.
+        IsUnasked k
+        × HasFailed p.held k.held asked.agent asked.frame HardwareError area.old area.new) }
     ensures driven { result ≡ DONE →
-        IsSomeAnd platform.old.value (λ p.
-        IsSomeAnd platform.new.value (λ k.
-        IsSomeAnd p.asked (λ asked.
-        Drives p.held k.held (CommandFailed asked.agent asked.frame HardwareError)))) }
+        OfAsked platform.old.value platform.new.value (λ p k asked.
+        Drives p.held k.held (CommandFailed asked.agent asked.frame HardwareError)) }
     ensures said { result ≡ DONE →
-        IsSomeAnd platform.old.value (λ p.
-        IsSomeAnd platform.new.value (λ k.
-        IsSomeAnd p.asked (λ asked.
-        Says (λ change. Refused change HardwareError) asked.change p.held k.held))) }
+        OfAsked platform.old.value platform.new.value (λ p k asked.
+        Says (λ change. Refused change HardwareError) asked.change p.held k.held) }
     ensures aside { HasSameAside platform.old.value platform.new.value }
     ensures no_platform { (result ≡ NO_PLATFORM) ↔ (platform.old.value ≡ None) }
     ensures nothing { (result ≡ NOTHING) ↔ IsSomeAnd platform.old.value IsUnasked }

@@ -8,7 +8,7 @@ ghost use Rattle.scmi_core.specs.declared.event.Event.TheVariants.{Command as Ca
 ghost use Rattle.scmi_c.specs.Calls.{HasAnsweredAtRate};
 ghost use Rattle.scmi_c.specs.Driven.{HappenInTurn, Says};
 ghost use Rattle.scmi_c.specs.Effect.{IsRate};
-ghost use Rattle.scmi_c.specs.Kept.{HasSameAside, IsUnasked};
+ghost use Rattle.scmi_c.specs.Kept.{HasSameAside, IsUnasked, OfAsked};
 ghost use Rattle.scmi_c.specs.Words.{HasAnsweredWordsAtRate, HasRoom, LacksRoom};
 ghost use Rattle.scmi_c.specs.declared.code.TheConstants.{DONE, NOTHING, NO_PLATFORM, NO_RATE, WRONG_SIZE};
 
@@ -32,21 +32,17 @@ pub extern "C" fn scmi_commit_rate(
     high: u32,
 ) -> u32
     ensures done { result ≡ DONE →
-        IsSomeAnd platform.old.value (λ p.
-        IsSomeAnd platform.new.value (λ k.
-        IsSomeAnd p.asked (λ asked. IsUnasked k
+        OfAsked platform.old.value platform.new.value (λ p k asked.
+        IsUnasked k
         × HasAnsweredAtRate p.held k.held asked.agent asked.frame
-        asked.change.id (rate_of low high) area.old area.new))) }
+        asked.change.id (rate_of low high) area.old area.new) }
     ensures driven { result ≡ DONE →
-        IsSomeAnd platform.old.value (λ p.
-        IsSomeAnd platform.new.value (λ k.
-        IsSomeAnd p.asked (λ asked.
+        OfAsked platform.old.value platform.new.value (λ p k asked.
         HappenInTurn p.held k.held (Called asked.agent asked.frame)
-        (Reported (Rate asked.change.id (rate_of low high)))))) }
+        (Reported (Rate asked.change.id (rate_of low high)))) }
     ensures said { result ≡ DONE →
-        IsSomeAnd platform.old.value (λ p.
-        IsSomeAnd platform.new.value (λ k.
-        IsSomeAnd p.asked (λ asked. Says Made asked.change p.held k.held))) }
+        OfAsked platform.old.value platform.new.value (λ p k asked.
+        Says Made asked.change p.held k.held) }
     ensures aside { HasSameAside platform.old.value platform.new.value }
     ensures no_platform { (result ≡ NO_PLATFORM) ↔ (platform.old.value ≡ None) }
     ensures nothing { (result ≡ NOTHING) ↔ IsSomeAnd platform.old.value IsUnasked }
@@ -73,21 +69,17 @@ pub extern "C" fn scmi_commit_rate_in(
     high: u32,
 ) -> u32
     ensures done { result ≡ DONE →
-        IsSomeAnd platform.old.value (λ p.
-        IsSomeAnd platform.new.value (λ k.
-        IsSomeAnd p.asked (λ asked. IsUnasked k
+        OfAsked platform.old.value platform.new.value (λ p k asked.
+        IsUnasked k
         × HasAnsweredAtRate p.held k.held asked.agent asked.frame
-        asked.change.id (rate_of low high) area.old area.new))) }
+        asked.change.id (rate_of low high) area.old area.new) }
     ensures driven { result ≡ DONE →
-        IsSomeAnd platform.old.value (λ p.
-        IsSomeAnd platform.new.value (λ k.
-        IsSomeAnd p.asked (λ asked.
+        OfAsked platform.old.value platform.new.value (λ p k asked.
         HappenInTurn p.held k.held (Called asked.agent asked.frame)
-        (Reported (Rate asked.change.id (rate_of low high)))))) }
+        (Reported (Rate asked.change.id (rate_of low high)))) }
     ensures said { result ≡ DONE →
-        IsSomeAnd platform.old.value (λ p.
-        IsSomeAnd platform.new.value (λ k.
-        IsSomeAnd p.asked (λ asked. Says Made asked.change p.held k.held))) }
+        OfAsked platform.old.value platform.new.value (λ p k asked.
+        Says Made asked.change p.held k.held) }
     ensures aside { HasSameAside platform.old.value platform.new.value }
     ensures no_platform { (result ≡ NO_PLATFORM) ↔ (platform.old.value ≡ None) }
     ensures nothing { (result ≡ NOTHING) ↔ IsSomeAnd platform.old.value IsUnasked }
@@ -120,21 +112,17 @@ pub extern "C" fn scmi_commit_rate_words(
     high: u32,
 ) -> u32
     ensures done { result ≡ DONE →
-        IsSomeAnd platform.old.value (λ p.
-        IsSomeAnd platform.new.value (λ k.
-        IsSomeAnd p.asked (λ asked. IsUnasked k
+        OfAsked platform.old.value platform.new.value (λ p k asked.
+        IsUnasked k
         × HasAnsweredWordsAtRate p.held k.held asked.agent asked.frame
-        asked.change.id (rate_of low high) count.new reply.old reply.new))) }
+        asked.change.id (rate_of low high) count.new reply.old reply.new) }
     ensures driven { result ≡ DONE →
-        IsSomeAnd platform.old.value (λ p.
-        IsSomeAnd platform.new.value (λ k.
-        IsSomeAnd p.asked (λ asked.
+        OfAsked platform.old.value platform.new.value (λ p k asked.
         HappenInTurn p.held k.held (Called asked.agent asked.frame)
-        (Reported (Rate asked.change.id (rate_of low high)))))) }
+        (Reported (Rate asked.change.id (rate_of low high)))) }
     ensures said { result ≡ DONE →
-        IsSomeAnd platform.old.value (λ p.
-        IsSomeAnd platform.new.value (λ k.
-        IsSomeAnd p.asked (λ asked. Says Made asked.change p.held k.held))) }
+        OfAsked platform.old.value platform.new.value (λ p k asked.
+        Says Made asked.change p.held k.held) }
     ensures aside { HasSameAside platform.old.value platform.new.value }
     ensures no_platform { (result ≡ NO_PLATFORM) ↔ (platform.old.value ≡ None) }
     ensures nothing { (result ≡ NOTHING) ↔ IsSomeAnd platform.old.value IsUnasked }

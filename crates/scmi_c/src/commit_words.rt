@@ -4,7 +4,7 @@ ghost use Rattle.scmi_core.specs.Asked.{Made, Refused};
 ghost use Rattle.scmi_core.specs.declared.event.Event.TheVariants.{Command as Called, CommandFailed};
 ghost use Rattle.scmi_codec.specs.declared.fault.Fault.TheVariants.{HardwareError};
 ghost use Rattle.scmi_c.specs.Driven.{Drives, Says};
-ghost use Rattle.scmi_c.specs.Kept.{HasSameAside, IsUnasked};
+ghost use Rattle.scmi_c.specs.Kept.{HasSameAside, IsUnasked, OfAsked};
 ghost use Rattle.scmi_c.specs.Words.{HasAnsweredWords, HasFailedWords, LacksRoom};
 ghost use Rattle.scmi_c.specs.declared.code.TheConstants.{DONE, NOTHING, NO_PLATFORM, WRONG_SIZE};
 
@@ -26,20 +26,16 @@ pub extern "C" fn scmi_commit_words(
     count: &mut u32,
 ) -> u32
     ensures done { result ≡ DONE →
-        IsSomeAnd platform.old.value (λ p.
-        IsSomeAnd platform.new.value (λ k.
-        IsSomeAnd p.asked (λ asked. IsUnasked k
+        OfAsked platform.old.value platform.new.value (λ p k asked.
+        IsUnasked k
         × HasAnsweredWords p.held k.held asked.agent asked.frame
-        count.new reply.old reply.new))) }
+        count.new reply.old reply.new) }
     ensures driven { result ≡ DONE →
-        IsSomeAnd platform.old.value (λ p.
-        IsSomeAnd platform.new.value (λ k.
-        IsSomeAnd p.asked (λ asked.
-        Drives p.held k.held (Called asked.agent asked.frame)))) }
+        OfAsked platform.old.value platform.new.value (λ p k asked.
+        Drives p.held k.held (Called asked.agent asked.frame)) }
     ensures said { result ≡ DONE →
-        IsSomeAnd platform.old.value (λ p.
-        IsSomeAnd platform.new.value (λ k.
-        IsSomeAnd p.asked (λ asked. Says Made asked.change p.held k.held))) }
+        OfAsked platform.old.value platform.new.value (λ p k asked.
+        Says Made asked.change p.held k.held) }
     ensures aside { HasSameAside platform.old.value platform.new.value }
     ensures no_platform { (result ≡ NO_PLATFORM) ↔ (platform.old.value ≡ None) }
     ensures nothing { (result ≡ NOTHING) ↔ IsSomeAnd platform.old.value IsUnasked }
@@ -67,21 +63,16 @@ pub extern "C" fn scmi_fail_words(
     count: &mut u32,
 ) -> u32
     ensures done { result ≡ DONE →
-        IsSomeAnd platform.old.value (λ p.
-        IsSomeAnd platform.new.value (λ k.
-        IsSomeAnd p.asked (λ asked. IsUnasked k
+        OfAsked platform.old.value platform.new.value (λ p k asked.
+        IsUnasked k
         × HasFailedWords p.held k.held asked.agent asked.frame HardwareError
-        count.new reply.old reply.new))) }
+        count.new reply.old reply.new) }
     ensures driven { result ≡ DONE →
-        IsSomeAnd platform.old.value (λ p.
-        IsSomeAnd platform.new.value (λ k.
-        IsSomeAnd p.asked (λ asked.
-        Drives p.held k.held (CommandFailed asked.agent asked.frame HardwareError)))) }
+        OfAsked platform.old.value platform.new.value (λ p k asked.
+        Drives p.held k.held (CommandFailed asked.agent asked.frame HardwareError)) }
     ensures said { result ≡ DONE →
-        IsSomeAnd platform.old.value (λ p.
-        IsSomeAnd platform.new.value (λ k.
-        IsSomeAnd p.asked (λ asked.
-        Says (λ change. Refused change HardwareError) asked.change p.held k.held))) }
+        OfAsked platform.old.value platform.new.value (λ p k asked.
+        Says (λ change. Refused change HardwareError) asked.change p.held k.held) }
     ensures aside { HasSameAside platform.old.value platform.new.value }
     ensures no_platform { (result ≡ NO_PLATFORM) ↔ (platform.old.value ≡ None) }
     ensures nothing { (result ≡ NOTHING) ↔ IsSomeAnd platform.old.value IsUnasked }

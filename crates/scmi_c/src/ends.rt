@@ -7,7 +7,7 @@ ghost use Rattle.scmi_core.specs.declared.event.Event.{Event};
 ghost use Rattle.scmi_core.specs.declared.event.Event.TheVariants.{Advance, AdvanceFailed};
 ghost use Rattle.scmi_codec.specs.declared.fault.Fault.TheVariants.{HardwareError};
 ghost use Rattle.scmi_c.specs.Effect.{numbers_of};
-ghost use Rattle.scmi_c.specs.Kept.{HasSameAside, IsAsked, IsUnasked};
+ghost use Rattle.scmi_c.specs.Kept.{BeforeAfter, HasSameAside, IsAsked, IsUnasked};
 ghost use Rattle.scmi_c.specs.Standing.{StandsAt, board_of};
 ghost use Rattle.scmi_c.specs.Calls.{HasHappened};
 ghost use Rattle.scmi_c.specs.Driven.{Drives};
@@ -60,13 +60,11 @@ pub extern "C" fn scmi_ask_advance(
 #[unsafe(no_mangle)]
 pub extern "C" fn scmi_fail_advance(alloc: Global, platform: &mut Handle) -> u32
     ensures done { result ≡ DONE →
-        IsSomeAnd platform.old.value (λ p.
-        IsSomeAnd platform.new.value (λ k.
-        IsUnasked k × HasHappened p.held k.held (AdvanceFailed HardwareError))) }
+        BeforeAfter platform.old.value platform.new.value (λ p k.
+        IsUnasked k × HasHappened p.held k.held (AdvanceFailed HardwareError)) }
     ensures driven { result ≡ DONE →
-        IsSomeAnd platform.old.value (λ p.
-        IsSomeAnd platform.new.value (λ k.
-        Drives p.held k.held (AdvanceFailed HardwareError))) }
+        BeforeAfter platform.old.value platform.new.value (λ p k.
+        Drives p.held k.held (AdvanceFailed HardwareError)) }
     ensures nothing { IfSome platform.old.value (λ p. IsUnasked p →
         (h : List Event) → StandsAt p.held h →
         (result ≡ NOTHING) ↔ IsIdle (board_of p.held) h) }

@@ -1,30 +1,20 @@
-//! What a handle holds.
-ghost use Rattle.std.specs.Prelude.{◌≡◌, ◌≢◌, ◌<◌, ◌↔◌, ◌⊎◌, ◌++◌, ◌∷◌, [], ℕ, List, length, true, false, Some, None, IfOk, IsSomeAnd, OnOk, OnErr, IfErr, Err};
-ghost use Rattle.scmi_codec.specs.declared.frame.Answer.TheVariants.{Reply};
-ghost use Rattle.scmi_codec.specs.declared.frame.Frame.TheVariants.{Good};
-ghost use Rattle.scmi_codec.specs.declared.message.Message.{Message};
+//! What a handle holds, and the events that are no commands.
+ghost use Rattle.std.specs.Prelude.{◌≡◌, ◌<◌, ◌↔◌, ◌⊎◌, ◌++◌, ◌∷◌, [], List, length, true, false, Some, None, IsSomeAnd, OnOk, OnErr, IfErr, Err};
 ghost use Rattle.scmi_plan.specs.Agent.{IsAgent};
 ghost use Rattle.scmi_plan.specs.Plan.{IsValid};
 ghost use Rattle.scmi_plan.specs.declared.effect.Effect.TheVariants.{Enabled, Rate};
-ghost use Rattle.scmi_core.specs.Asked.{Made, Refused};
-ghost use Rattle.scmi_core.specs.Effect.{effect_after, is_set_frame};
-ghost use Rattle.scmi_core.specs.History.{IsIdle, HasNothingFor, answer_to, answer_with};
-ghost use Rattle.scmi_core.specs.Reply.{failed_answer};
+ghost use Rattle.scmi_core.specs.History.{IsIdle, HasNothingFor};
 ghost use Rattle.scmi_core.specs.Value.{HasNoResource, HasNoState};
 ghost use Rattle.scmi_core.specs.declared.event.Event.{Event};
-ghost use Rattle.scmi_core.specs.declared.event.Event.TheVariants.{Command as Called, Advance, Sent, CommandFailed, AdvanceFailed, Restarted, Reported};
-ghost use Rattle.scmi_plan.specs.declared.limits.TheConstants.{AGENTS};
-ghost use Rattle.scmi_c.specs.Aside.{IsHeldBackAt, IsHeldBackBy, IsMarked, KeepsSpared};
+ghost use Rattle.scmi_core.specs.declared.event.Event.TheVariants.{Advance, Sent, AdvanceFailed, Restarted, Reported};
 ghost use Rattle.scmi_c.specs.Calls.{HasHappened};
-ghost use Rattle.scmi_c.specs.Driven.{Drives, HappenInTurn, IsDriven, IsUnsaid};
-ghost use Rattle.scmi_c.specs.Kept.{KeepsAskable, aside_by};
-ghost use Rattle.scmi_c.specs.Other.{IsOther, is_other};
+ghost use Rattle.scmi_c.specs.Driven.{Drives, HappenInTurn, IsDriven};
+ghost use Rattle.scmi_c.specs.Kept.{KeepsAskable};
 ghost use Rattle.scmi_c.specs.Standing.{HasHistory, IsCount, IsCounted, LacksAgent, StandsAt, board_of};
 
-use crate::aside::Aside;
 use crate::refusal::Refusal;
-use scmi_codec::{BASE_PROTOCOL, CLOCK_PROTOCOL, Fault, Frame, Header, Message, POWER_PROTOCOL};
-use scmi_core::{Answered, CoreError, Effect, Platform, Said, Saying, may_change};
+use scmi_codec::Fault;
+use scmi_core::{CoreError, Effect, Platform, Said, Saying};
 use scmi_plan::Plan;
 use std::marker::Model;
 
@@ -65,26 +55,6 @@ impl Held {
             platform: Platform::new(plan),
             events,
             said: Said::nothing(),
-        }
-    }
-
-    /// Executes what an agent posted, and writes the reply into its place.
-    #[inline(always)]
-    pub fn command(&mut self, agent: u32, frame: &Frame, reply: &mut Message) -> Answered
-        requires { IsAgent (length (board_of self.old).agents) agent }
-        ensures answer { (h : List Event) → StandsAt self.old h →
-            answer_with result reply.new ≡ answer_to (board_of self.old) agent frame.now h }
-        ensures event { HasHappened self.old self.new (Called agent frame.now) }
-        ensures unsaid { IsUnsaid self.old self.new agent frame.now }
-        ensures spared { KeepsSpared frame.now self.old self.new }
-    {
-        match self.platform.command(agent, frame, reply) {
-            Ok(answered) => {
-                count(&mut self.events);
-                answered
-            }
-            // Never, since the board has the agent.
-            Err(_) => Answered::ChannelError,
         }
     }
 
@@ -229,152 +199,6 @@ impl Held {
         let _ = self.report(Effect::Rate { clock, rate });
     }
 
-    /// Refuses a frame of an agent that is held back by what is set aside, and before it a number
-    /// that is no agent's. It looks at neither if nothing is set aside.
-    #[inline(always)]
-    pub fn check_aside(&self, aside: &Aside, agent: u32, frame: &Frame) -> Result<(), Refusal>
-        requires { IsMarked aside.now }
-        ensures spared { OnOk result
-            (¬ (IsHeldBackBy (aside_by aside.now.slots) agent frame.now)) }
-        ensures asked { (result ≡ Err Refusal.Asked) ↔
-            IsHeldBackAt self.now (aside_by aside.now.slots) agent frame.now }
-        ensures no_agent { result ≡ Err Refusal.NoAgent → LacksAgent agent self.now }
-        ensures errors { IfErr result (λ e. (e ≡ Refusal.NoAgent) ⊎ (e ≡ Refusal.Asked)) }
-    {
-        if !aside.is_any {
-            return Ok(());
-        }
-        self.check_held_back(aside, agent, frame)
-    }
-
-    /// As `check_aside`, if something is set aside.
-    #[inline(never)]
-    fn check_held_back(&self, aside: &Aside, agent: u32, frame: &Frame) -> Result<(), Refusal>
-        requires { length aside.now.slots ≡ AGENTS }
-        ensures spared { OnOk result
-            (¬ (IsHeldBackBy (aside_by aside.now.slots) agent frame.now)) }
-        ensures asked { (result ≡ Err Refusal.Asked) ↔
-            IsHeldBackAt self.now (aside_by aside.now.slots) agent frame.now }
-        ensures no_agent { result ≡ Err Refusal.NoAgent → LacksAgent agent self.now }
-        ensures errors { IfErr result (λ e. (e ≡ Refusal.NoAgent) ⊎ (e ≡ Refusal.Asked)) }
-    {
-        self.check_agent(agent)?;
-        if aside.holds_back(agent, frame) {
-            Err(Refusal::Asked)
-        } else {
-            Ok(())
-        }
-    }
-
-    /// What an agent's command is to change of the hardware, before it is executed; `None` if it
-    /// changes nothing of it. `NoAgent` if the board lacks the agent; `Other` for a command of a
-    /// protocol of the board that the firmware answers.
-    #[inline(always)]
-    pub fn effect_of(&self, agent: u32, frame: &Frame) -> Result<Option<Effect>, Refusal>
-        ensures effect { (h : List Event) → StandsAt self.now h →
-            IfOk result (λ effect.
-            effect ≡ effect_after (board_of self.now) h (Called agent frame.now)) }
-        ensures set { IfOk result (λ effect. effect ≢ None → is_set_frame frame.now ≡ true) }
-        ensures agent { OnOk result (IsAgent (length (board_of self.now).agents) agent) }
-        ensures valid { IsValid (board_of self.now) }
-        ensures no_agent { (result ≡ Err Refusal.NoAgent) ↔ LacksAgent agent self.now }
-        ensures other { (result ≡ Err Refusal.Other) ↔ IsOther agent frame.now self.now }
-        ensures errors { IfErr result (λ e. (e ≡ Refusal.NoAgent) ⊎ (e ≡ Refusal.Other)) }
-    {
-        self.check_agent(agent)?;
-        if !may_change(frame) {
-            return if self.is_other(frame) {
-                Err(Refusal::Other)
-            } else {
-                Ok(None)
-            };
-        }
-        match self.platform.effect_of(agent, frame) {
-            Ok(effect) => Ok(effect),
-            Err(_) => Err(Refusal::NoAgent),
-        }
-    }
-
-    /// Whether a frame is a command of a protocol of the board that the firmware answers.
-    #[inline(always)]
-    fn is_other(&self, frame: &Frame) -> bool
-        ensures { result ≡ is_other (board_of self.now) frame.now }
-    {
-        match frame {
-            Frame::Good(message) => is_other(self.platform.board(), message.header),
-            Frame::Malformed { .. } => false,
-        }
-    }
-
-    /// Executes a command whose change the hardware has made, which is said of it; nothing is
-    /// decided again. If it gives a clock a rate, the board has the clock.
-    #[inline(always)]
-    pub fn commit(
-        &mut self,
-        agent: u32,
-        frame: &Frame,
-        effect: Effect,
-        reply: &mut Message,
-    ) -> Answered
-        requires agent { IsAgent (length (board_of self.old).agents) agent }
-        requires effect { (h : List Event) → StandsAt self.old h →
-            effect_after (board_of self.old) h (Called agent frame.now) ≡ Some effect }
-        ensures valid { IsValid (board_of self.old) }
-        ensures answer { (h : List Event) → StandsAt self.old h →
-            answer_with result reply.new ≡ answer_to (board_of self.old) agent frame.now h }
-        ensures event { HasHappened self.old self.new (Called agent frame.now) }
-        ensures driven { Drives self.old self.new (Called agent frame.now) }
-        ensures said { self.new.said ≡ self.old.said ++ Made effect ∷ [] }
-        ensures askable { KeepsAskable self.old self.new }
-        ensures clock { (clock rate : ℕ) → effect ≡ Rate clock rate
-            → clock < length (board_of self.old).clocks }
-    {
-        let answered = self.platform.commit(agent, frame, effect, reply);
-        self.said = self.said.and(&Saying::Made(effect));
-        count(&mut self.events);
-        answered
-    }
-
-    /// As `command_failed`, and says of the hardware that it refused the change.
-    #[inline(always)]
-    pub fn refuse(
-        &mut self,
-        agent: u32,
-        frame: &Frame,
-        effect: Effect,
-        fault: Fault,
-        reply: &mut Message,
-    )
-        requires agent { IsAgent (length (board_of self.old).agents) agent }
-        requires effect { (h : List Event) → StandsAt self.old h →
-            effect_after (board_of self.old) h (Called agent frame.now) ≡ Some effect }
-        ensures answer { Reply reply.new ≡ failed_answer frame.now fault }
-        ensures event { HasHappened self.old self.new (CommandFailed agent frame.now fault) }
-        ensures driven { Drives self.old self.new (CommandFailed agent frame.now fault) }
-        ensures said { self.new.said ≡ self.old.said ++ Refused effect fault ∷ [] }
-        ensures askable { KeepsAskable self.old self.new }
-    {
-        self.command_failed(agent, frame, fault, reply);
-        self.said = self.said.and(&Saying::Refused(effect, fault));
-    }
-
-    /// Answers a command whose change the hardware refused by the status of this fault.
-    fn command_failed(&mut self, agent: u32, frame: &Frame, fault: Fault, reply: &mut Message)
-        requires agent { IsAgent (length (board_of self.old).agents) agent }
-        requires effect { (h : List Event) → StandsAt self.old h →
-            effect_after (board_of self.old) h (Called agent frame.now) ≢ None }
-        ensures answer { Reply reply.new ≡ failed_answer frame.now fault }
-        ensures event { HasHappened self.old self.new (CommandFailed agent frame.now fault) }
-        ensures said { self.new.said ≡ self.old.said }
-        ensures history { HasHistory self.old }
-    {
-        match self.platform.command_failed(agent, frame, fault, reply) {
-            Ok(()) => count(&mut self.events),
-            // Never, since the board has the agent and there is an effect.
-            Err(_) => {}
-        }
-    }
-
     /// Does nothing: it is there for its contract, that a platform is as some history leaves it.
     #[inline(always)]
     pub fn stand(&self)
@@ -399,20 +223,8 @@ impl Held {
     }
 }
 
-/// Whether a message with this header is a command of a protocol of the board that the firmware
-/// answers.
-#[inline(always)]
-fn is_other(board: &Plan, header: Header) -> bool
-    ensures { (m : Message) → m.header ≡ header → result ≡ is_other board.now (Good m) }
-{
-    let protocol = header.protocol();
-    !matches!(protocol, BASE_PROTOCOL | POWER_PROTOCOL | CLOCK_PROTOCOL)
-        && header.kind() == 0
-        && board.serves(protocol)
-}
-
 /// One more event, if events are counted.
-fn count(events: &mut Option<u64>)
+pub(crate) fn count(events: &mut Option<u64>)
     ensures count { (h : List Event) (event : Event) → IsCount events.old h →
         IsCount events.new (h ++ event ∷ []) }
     ensures counted { (events.new ≡ None) ↔ (events.old ≡ None) }

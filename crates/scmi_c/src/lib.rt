@@ -28,6 +28,7 @@ mod ends;
 mod fault;
 mod handle;
 mod held;
+mod held_commands;
 mod history;
 mod laws;
 mod loose;

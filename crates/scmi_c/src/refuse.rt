@@ -8,7 +8,7 @@ ghost use Rattle.scmi_core.specs.declared.event.Event.TheVariants.{AdvanceFailed
 ghost use Rattle.scmi_c.specs.Calls.{HasFailed, HasHappened};
 ghost use Rattle.scmi_c.specs.Driven.{Drives, Says};
 ghost use Rattle.scmi_c.specs.Fault.{fault_said};
-ghost use Rattle.scmi_c.specs.Kept.{HasSameAside, IsAsked, IsUnasked};
+ghost use Rattle.scmi_c.specs.Kept.{BeforeAfter, HasSameAside, IsAsked, IsUnasked};
 ghost use Rattle.scmi_c.specs.Standing.{StandsAt, board_of};
 ghost use Rattle.scmi_c.specs.Words.{HasFailedWords, HasRoom, LacksRoom};
 ghost use Rattle.scmi_c.specs.declared.code.TheConstants.{ASKED, DONE, NOTHING, NO_PLATFORM, WRONG_SIZE, WRONG_STATUS};
@@ -32,23 +32,20 @@ pub extern "C" fn scmi_refuse(
     status: u32,
 ) -> u32
     ensures done { result ≡ DONE →
-        IsSomeAnd platform.old.value (λ p.
-        IsSomeAnd platform.new.value (λ k.
+        BeforeAfter platform.old.value platform.new.value (λ p k.
         IsSomeAnd (fault_said status) (λ fault.
         IsSomeAnd p.asked (λ asked. IsUnasked k
-        × HasFailed p.held k.held asked.agent asked.frame fault area.old area.new)))) }
+        × HasFailed p.held k.held asked.agent asked.frame fault area.old area.new))) }
     ensures driven { result ≡ DONE →
-        IsSomeAnd platform.old.value (λ p.
-        IsSomeAnd platform.new.value (λ k.
+        BeforeAfter platform.old.value platform.new.value (λ p k.
         IsSomeAnd (fault_said status) (λ fault.
         IsSomeAnd p.asked (λ asked.
-        Drives p.held k.held (CommandFailed asked.agent asked.frame fault))))) }
+        Drives p.held k.held (CommandFailed asked.agent asked.frame fault)))) }
     ensures said { result ≡ DONE →
-        IsSomeAnd platform.old.value (λ p.
-        IsSomeAnd platform.new.value (λ k.
+        BeforeAfter platform.old.value platform.new.value (λ p k.
         IsSomeAnd (fault_said status) (λ fault.
         IsSomeAnd p.asked (λ asked.
-        Says (λ change. Refused change fault) asked.change p.held k.held)))) }
+        Says (λ change. Refused change fault) asked.change p.held k.held))) }
     ensures aside { HasSameAside platform.old.value platform.new.value }
     ensures no_platform { (result ≡ NO_PLATFORM) ↔ (platform.old.value ≡ None) }
     ensures nothing { (result ≡ NOTHING) ↔ IsSomeAnd platform.old.value IsUnasked }
@@ -74,23 +71,20 @@ pub extern "C" fn scmi_refuse_in(
     status: u32,
 ) -> u32
     ensures done { result ≡ DONE →
-        IsSomeAnd platform.old.value (λ p.
-        IsSomeAnd platform.new.value (λ k.
+        BeforeAfter platform.old.value platform.new.value (λ p k.
         IsSomeAnd (fault_said status) (λ fault.
         IsSomeAnd p.asked (λ asked. IsUnasked k
-        × HasFailed p.held k.held asked.agent asked.frame fault area.old area.new)))) }
+        × HasFailed p.held k.held asked.agent asked.frame fault area.old area.new))) }
     ensures driven { result ≡ DONE →
-        IsSomeAnd platform.old.value (λ p.
-        IsSomeAnd platform.new.value (λ k.
+        BeforeAfter platform.old.value platform.new.value (λ p k.
         IsSomeAnd (fault_said status) (λ fault.
         IsSomeAnd p.asked (λ asked.
-        Drives p.held k.held (CommandFailed asked.agent asked.frame fault))))) }
+        Drives p.held k.held (CommandFailed asked.agent asked.frame fault)))) }
     ensures said { result ≡ DONE →
-        IsSomeAnd platform.old.value (λ p.
-        IsSomeAnd platform.new.value (λ k.
+        BeforeAfter platform.old.value platform.new.value (λ p k.
         IsSomeAnd (fault_said status) (λ fault.
         IsSomeAnd p.asked (λ asked.
-        Says (λ change. Refused change fault) asked.change p.held k.held)))) }
+        Says (λ change. Refused change fault) asked.change p.held k.held))) }
     ensures aside { HasSameAside platform.old.value platform.new.value }
     ensures no_platform { (result ≡ NO_PLATFORM) ↔ (platform.old.value ≡ None) }
     ensures nothing { (result ≡ NOTHING) ↔ IsSomeAnd platform.old.value IsUnasked }
@@ -122,24 +116,21 @@ pub extern "C" fn scmi_refuse_words(
     status: u32,
 ) -> u32
     ensures done { result ≡ DONE →
-        IsSomeAnd platform.old.value (λ p.
-        IsSomeAnd platform.new.value (λ k.
+        BeforeAfter platform.old.value platform.new.value (λ p k.
         IsSomeAnd (fault_said status) (λ fault.
         IsSomeAnd p.asked (λ asked. IsUnasked k
         × HasFailedWords p.held k.held asked.agent asked.frame fault
-        count.new reply.old reply.new)))) }
+        count.new reply.old reply.new))) }
     ensures driven { result ≡ DONE →
-        IsSomeAnd platform.old.value (λ p.
-        IsSomeAnd platform.new.value (λ k.
+        BeforeAfter platform.old.value platform.new.value (λ p k.
         IsSomeAnd (fault_said status) (λ fault.
         IsSomeAnd p.asked (λ asked.
-        Drives p.held k.held (CommandFailed asked.agent asked.frame fault))))) }
+        Drives p.held k.held (CommandFailed asked.agent asked.frame fault)))) }
     ensures said { result ≡ DONE →
-        IsSomeAnd platform.old.value (λ p.
-        IsSomeAnd platform.new.value (λ k.
+        BeforeAfter platform.old.value platform.new.value (λ p k.
         IsSomeAnd (fault_said status) (λ fault.
         IsSomeAnd p.asked (λ asked.
-        Says (λ change. Refused change fault) asked.change p.held k.held)))) }
+        Says (λ change. Refused change fault) asked.change p.held k.held))) }
     ensures aside { HasSameAside platform.old.value platform.new.value }
     ensures no_platform { (result ≡ NO_PLATFORM) ↔ (platform.old.value ≡ None) }
     ensures nothing { (result ≡ NOTHING) ↔ IsSomeAnd platform.old.value IsUnasked }
@@ -166,15 +157,13 @@ pub extern "C" fn scmi_refuse_words(
 #[unsafe(no_mangle)]
 pub extern "C" fn scmi_refuse_advance(alloc: Global, platform: &mut Handle, status: u32) -> u32
     ensures done { result ≡ DONE →
-        IsSomeAnd platform.old.value (λ p.
-        IsSomeAnd platform.new.value (λ k.
+        BeforeAfter platform.old.value platform.new.value (λ p k.
         IsSomeAnd (fault_said status) (λ fault.
-        IsUnasked k × HasHappened p.held k.held (AdvanceFailed fault)))) }
+        IsUnasked k × HasHappened p.held k.held (AdvanceFailed fault))) }
     ensures driven { result ≡ DONE →
-        IsSomeAnd platform.old.value (λ p.
-        IsSomeAnd platform.new.value (λ k.
+        BeforeAfter platform.old.value platform.new.value (λ p k.
         IsSomeAnd (fault_said status) (λ fault.
-        Drives p.held k.held (AdvanceFailed fault)))) }
+        Drives p.held k.held (AdvanceFailed fault))) }
     ensures nothing { IfSome platform.old.value (λ p. IsUnasked p →
         (h : List Event) → StandsAt p.held h →
         (result ≡ NOTHING) ↔ IsIdle (board_of p.held) h) }

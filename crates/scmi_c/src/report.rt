@@ -6,7 +6,7 @@ ghost use Rattle.scmi_core.specs.Value.{HasNoResource, HasNoState};
 ghost use Rattle.scmi_core.specs.declared.event.Event.TheVariants.{Reported};
 ghost use Rattle.scmi_c.specs.Calls.{HasHappened};
 ghost use Rattle.scmi_c.specs.Driven.{Drives, HappenInTurn};
-ghost use Rattle.scmi_c.specs.Kept.{HasSameAside, IsAsked, IsUnasked};
+ghost use Rattle.scmi_c.specs.Kept.{BeforeAfter, HasSameAside, IsAsked, IsUnasked};
 ghost use Rattle.scmi_c.specs.Standing.{board_of};
 ghost use Rattle.scmi_c.specs.Tables.{is_set};
 ghost use Rattle.scmi_c.specs.declared.code.TheConstants.{ASKED, DONE, NO_PLATFORM, NO_RESOURCE, NO_STATE};
@@ -30,13 +30,11 @@ pub extern "C" fn scmi_domain_is(
     state: u32,
 ) -> u32
     ensures done { result ≡ DONE →
-        IsSomeAnd platform.old.value (λ p.
-        IsSomeAnd platform.new.value (λ k.
-        IsUnasked k × HasHappened p.held k.held (Reported (State domain state)))) }
+        BeforeAfter platform.old.value platform.new.value (λ p k.
+        IsUnasked k × HasHappened p.held k.held (Reported (State domain state))) }
     ensures driven { result ≡ DONE →
-        IsSomeAnd platform.old.value (λ p.
-        IsSomeAnd platform.new.value (λ k.
-        Drives p.held k.held (Reported (State domain state)))) }
+        BeforeAfter platform.old.value platform.new.value (λ p k.
+        Drives p.held k.held (Reported (State domain state))) }
     ensures no_resource { (result ≡ NO_RESOURCE) ↔ IsSomeAnd platform.old.value (λ p.
         IsUnasked p × HasNoResource (board_of p.held) (State domain state)) }
     ensures no_state { (result ≡ NO_STATE) ↔ IsSomeAnd platform.old.value (λ p.
@@ -72,11 +70,10 @@ pub extern "C" fn scmi_clock_is(
     enabled: u32,
 ) -> u32
     ensures done { result ≡ DONE →
-        IsSomeAnd platform.old.value (λ p.
-        IsSomeAnd platform.new.value (λ k.
+        BeforeAfter platform.old.value platform.new.value (λ p k.
         IsUnasked k × HappenInTurn p.held k.held
         (Reported (Rate clock (rate_of low high)))
-        (Reported (Enabled clock (is_set enabled))))) }
+        (Reported (Enabled clock (is_set enabled)))) }
     ensures no_resource { (result ≡ NO_RESOURCE) ↔ IsSomeAnd platform.old.value (λ p.
         IsUnasked p × HasNoResource (board_of p.held) (Rate clock (rate_of low high))) }
     ensures asked { (result ≡ ASKED) ↔ IsSomeAnd platform.old.value IsAsked }

@@ -4,7 +4,7 @@ ghost use Rattle.scmi_core.specs.declared.event.Event.TheVariants.{Restarted};
 ghost use Rattle.scmi_c.specs.Standing.{LacksAgent};
 ghost use Rattle.scmi_c.specs.Calls.{HasHappened};
 ghost use Rattle.scmi_c.specs.Driven.{Drives};
-ghost use Rattle.scmi_c.specs.Kept.{HasSameAside, IsBusy, IsFree, IsUnasked};
+ghost use Rattle.scmi_c.specs.Kept.{BeforeAfter, HasSameAside, IsBusy, IsFree, IsUnasked};
 ghost use Rattle.scmi_c.specs.declared.code.TheConstants.{ASKED, DONE, NO_AGENT, NO_PLATFORM};
 
 use crate::code::code;
@@ -19,12 +19,11 @@ use std::alloc::Global;
 #[unsafe(no_mangle)]
 pub extern "C" fn scmi_restart(alloc: Global, platform: &mut Handle, agent: u32) -> u32
     ensures done { result ≡ DONE →
-        IsSomeAnd platform.old.value (λ p.
-        IsSomeAnd platform.new.value (λ k.
-        IsUnasked k × HasHappened p.held k.held (Restarted agent))) }
+        BeforeAfter platform.old.value platform.new.value (λ p k.
+        IsUnasked k × HasHappened p.held k.held (Restarted agent)) }
     ensures driven { result ≡ DONE →
-        IsSomeAnd platform.old.value (λ p.
-        IsSomeAnd platform.new.value (λ k. Drives p.held k.held (Restarted agent))) }
+        BeforeAfter platform.old.value platform.new.value (λ p k.
+        Drives p.held k.held (Restarted agent)) }
     ensures no_agent { (result ≡ NO_AGENT) ↔
         IsSomeAnd platform.old.value (λ p. IsFree p × LacksAgent agent p.held) }
     ensures asked { (result ≡ ASKED) ↔ IsSomeAnd platform.old.value IsBusy }

@@ -7,7 +7,7 @@ ghost use Rattle.scmi_core.specs.declared.event.Event.TheVariants.{Sent};
 ghost use Rattle.scmi_c.specs.Standing.{LacksAgent, StandsAt, board_of};
 ghost use Rattle.scmi_c.specs.Calls.{HasPosted, HasHappened, HasNext, LacksNext};
 ghost use Rattle.scmi_c.specs.Driven.{Drives};
-ghost use Rattle.scmi_c.specs.Kept.{HasSameAside, IsAsked, IsUnasked};
+ghost use Rattle.scmi_c.specs.Kept.{BeforeAfter, HasSameAside, IsAsked, IsUnasked};
 ghost use Rattle.scmi_c.specs.declared.code.TheConstants.{ASKED, DONE, NOTHING, MEMORY, NO_AGENT, NOT_FREE, NO_PLATFORM};
 
 use crate::area::post_next;
@@ -58,12 +58,11 @@ pub extern "C" fn scmi_next(
 #[unsafe(no_mangle)]
 pub extern "C" fn scmi_sent(alloc: Global, platform: &mut Handle, agent: u32) -> u32
     ensures done { result ≡ DONE →
-        IsSomeAnd platform.old.value (λ p.
-        IsSomeAnd platform.new.value (λ k.
-        IsUnasked k × HasHappened p.held k.held (Sent agent))) }
+        BeforeAfter platform.old.value platform.new.value (λ p k.
+        IsUnasked k × HasHappened p.held k.held (Sent agent)) }
     ensures driven { result ≡ DONE →
-        IsSomeAnd platform.old.value (λ p.
-        IsSomeAnd platform.new.value (λ k. Drives p.held k.held (Sent agent))) }
+        BeforeAfter platform.old.value platform.new.value (λ p k.
+        Drives p.held k.held (Sent agent)) }
     ensures nothing { IfSome platform.old.value (λ p. IsUnasked p →
         (h : List Event) → StandsAt p.held h →
         (result ≡ NOTHING) ↔ HasNothingFor (board_of p.held) agent h) }

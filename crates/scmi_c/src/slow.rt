@@ -1,7 +1,7 @@
 //! Commands whose hardware is slow: they are set aside, and taken up again.
 ghost use Rattle.std.specs.Prelude.{◌≡◌, ◌≢◌, ◌↔◌, ◌⊎◌, None, IsSomeAnd};
 ghost use Rattle.scmi_c.specs.Aside.{IsSetAside, IsTakenUp};
-ghost use Rattle.scmi_c.specs.Kept.{IsAsked, IsUnasked, aside_of};
+ghost use Rattle.scmi_c.specs.Kept.{BeforeAfter, IsAsked, IsUnasked, aside_of};
 ghost use Rattle.scmi_c.specs.declared.code.TheConstants.{ASKED, DONE, NOTHING, NO_PLATFORM};
 
 use crate::code::{NO_PLATFORM, code};
@@ -14,9 +14,8 @@ use std::alloc::Global;
 #[unsafe(no_mangle)]
 pub extern "C" fn scmi_set_aside(alloc: Global, platform: &mut Handle) -> u32
     ensures done { result ≡ DONE →
-        IsSomeAnd platform.old.value (λ p.
-        IsSomeAnd platform.new.value (λ k.
-        IsSomeAnd p.asked (λ command. IsSetAside command p k))) }
+        BeforeAfter platform.old.value platform.new.value (λ p k.
+        IsSomeAnd p.asked (λ command. IsSetAside command p k)) }
     ensures no_platform { (result ≡ NO_PLATFORM) ↔ (platform.old.value ≡ None) }
     ensures nothing { (result ≡ NOTHING) ↔ IsSomeAnd platform.old.value IsUnasked }
     ensures errors { (result ≡ DONE) ⊎ (result ≡ NO_PLATFORM) ⊎ (result ≡ NOTHING) }
@@ -36,9 +35,8 @@ pub extern "C" fn scmi_set_aside(alloc: Global, platform: &mut Handle) -> u32
 #[unsafe(no_mangle)]
 pub extern "C" fn scmi_take_up(alloc: Global, platform: &mut Handle, agent: u32) -> u32
     ensures done { result ≡ DONE →
-        IsSomeAnd platform.old.value (λ p.
-        IsSomeAnd platform.new.value (λ k.
-        IsSomeAnd (aside_of p agent) (λ command. IsTakenUp agent command p k))) }
+        BeforeAfter platform.old.value platform.new.value (λ p k.
+        IsSomeAnd (aside_of p agent) (λ command. IsTakenUp agent command p k)) }
     ensures no_platform { (result ≡ NO_PLATFORM) ↔ (platform.old.value ≡ None) }
     ensures asked { (result ≡ ASKED) ↔ IsSomeAnd platform.old.value IsAsked }
     ensures nothing { (result ≡ NOTHING) ↔ IsSomeAnd platform.old.value (λ p.

@@ -63,7 +63,6 @@ mod run;
 mod script;
 mod shape;
 mod sign;
-mod step_text;
 mod style;
 mod subject;
 mod threads;

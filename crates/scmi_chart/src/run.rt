@@ -54,11 +54,11 @@ pub fn chart_of(
 }
 
 /// The board and the steps after the first line, in a script of this mode.
-fn read_input(
+fn read_input<'a>(
     alloc: Global,
     mode: Mode,
-    bytes: &[u8],
-) -> Result<(BoardWithLines, StepList), RunError>
+    bytes: &'a [u8],
+) -> Result<(BoardWithLines, StepList<'a>), RunError>
     ensures agents { IfOk result (λ read.
         All (IsStepOf (length (described read.0).0.agents)) read.1) }
     ensures channels { IfOk result (λ read.
@@ -73,12 +73,12 @@ fn read_input(
 }
 
 /// The steps of all lines that are left, in a script of this mode.
-fn read_script(
+fn read_script<'a>(
     alloc: Global,
     mode: Mode,
-    lines: &mut Lines<'_>,
+    lines: &mut Lines<'a>,
     agents: u32,
-) -> Result<StepList, TextError>
+) -> Result<StepList<'a>, TextError>
     ensures agents { IfOk result (λ steps. All (IsStepOf agents) steps) }
     ensures kinds { IfOk result (λ steps. All (MayHave mode) steps) }
     ensures steps { GivesScript (λ steps. steps) result
@@ -107,7 +107,7 @@ fn step_through<C: Channel>(
     mode: Mode,
     plan: Plan,
     board: &RawPlan,
-    steps: &StepList,
+    steps: &StepList<'_>,
     lines: &mut Lines<'_>,
 ) -> Result<Chart, RunError>
     requires agents { All (IsStepOf (length plan.agents)) steps.now }

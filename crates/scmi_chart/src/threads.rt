@@ -14,12 +14,11 @@ use crate::history::steps_of_run;
 use crate::record_step::record_step;
 use crate::recorder::Recorder;
 use crate::run::{STEPS, plural, title_of};
-use crate::step_text::StepText;
 use scmi_board::{Lines, TextLine, read_board};
 use scmi_link::{Channel, RingChannel};
 use scmi_modes::{Kind, RunError, Session};
 use scmi_plan::{Plan, RawPlan};
-use scmi_text::{Step, read_scripts};
+use scmi_text::{PlainStep, Step, read_scripts};
 use scmi_threads::{AgentLog, Gate, Outcome, Script, Stop, run_agents};
 use scmi_words::WordChannel;
 use std::alloc::{AllocError, Global};
@@ -127,7 +126,7 @@ fn draw_steps<C: Channel>(
     let mut recorder = Recorder::new(alloc, board, session.core())?;
     'steps: for i in 0..steps.len() {
         let step = &steps[i];
-        let text = format!(in alloc; "{}", StepText { step })?;
+        let text = format!(in alloc; "{}", PlainStep(step))?;
         let line = TextLine {
             number: line_number(i),
             text: text.as_bytes(),

@@ -10,7 +10,7 @@ use Rattle.scmi_codec.specs.declared.frame.Answer.TheVariants.{Reply, ChannelErr
 use Rattle.scmi_codec.specs.declared.frame.Frame.TheVariants.{Malformed}
 use Rattle.scmi_judge.specs.declared.entry.Entry.TheVariants.{Answered, Delivered}
 use Rattle.scmi_text.specs.Fields.{first_agent}
-use Rattle.scmi_text.specs.PackedStep.{raw_with}
+use Rattle.scmi_text.specs.StepHead.{raw_with}
 use Rattle.scmi_text.specs.StepText.{agent_head, command_head, first_head, head_of, payload_of, step_of_line}
 use Rattle.scmi_text.specs.TextLines.{after_each_line}
 use Rattle.scmi_check.specs.AreaShown.{area_behind, area_described, with_area_word}

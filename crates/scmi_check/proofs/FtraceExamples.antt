@@ -8,7 +8,7 @@ use Rattle.scmi_codec.specs.declared.frame.Answer.TheVariants.{Reply}
 use Rattle.scmi_decode.specs.Event.{event_header, event_payload, signed_word}
 use Rattle.scmi_decode.specs.Traced.{event_traced}
 use Rattle.scmi_judge.specs.declared.entry.Entry.TheVariants.{Answered, Asked, Delivered, GivenUp, Replied}
-use Rattle.scmi_text.specs.PackedStep.{raw_with}
+use Rattle.scmi_text.specs.StepHead.{raw_with}
 use Rattle.scmi_text.specs.TextLines.{after_each_line}
 use Rattle.scmi_check.specs.Asking.{with_asked, with_given_up}
 use Rattle.scmi_check.specs.RecordText.{record_left, taken_with, with_line, with_shown}

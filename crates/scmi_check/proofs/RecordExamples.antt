@@ -11,7 +11,7 @@ use Rattle.scmi_codec.specs.declared.frame.Frame.TheVariants.{Good, Malformed}
 use Rattle.scmi_judge.specs.declared.entry.Entry.{Entry}
 use Rattle.scmi_judge.specs.declared.entry.Entry.TheVariants.{Answered, Asked, Delivered, Replied}
 use Rattle.scmi_text.specs.Fields.{first_agent, first_message, payload_behind, with_word}
-use Rattle.scmi_text.specs.PackedStep.{raw_with}
+use Rattle.scmi_text.specs.StepHead.{raw_with}
 use Rattle.scmi_text.specs.StepText.{agent_head, command_head, first_head, head_of, payload_of, step_of_line}
 use Rattle.scmi_text.specs.TextLines.{after_each_line}
 use Rattle.scmi_check.specs.LeftOut.{LeftView, nothing_left}

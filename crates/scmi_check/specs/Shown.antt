@@ -12,7 +12,7 @@ use Rattle.scmi_decode.specs.declared.event.EventKind.TheVariants as event
 use Rattle.scmi_decode.specs.declared.traced.Traced.{Traced}
 use Rattle.scmi_decode.specs.declared.traced.Traced.TheVariants as traced
 use Rattle.scmi_text.specs.Fields.{first_agent, payload_left}
-use Rattle.scmi_text.specs.PackedStep.{raw_with}
+use Rattle.scmi_text.specs.StepHead.{raw_with}
 use Rattle.scmi_text.specs.StepText.{plain_step_of_line}
 use Rattle.scmi_text.specs.WordRow.{form_in}
 use Rattle.scmi_text.specs.declared.step.AgentStep.TheVariants as agent

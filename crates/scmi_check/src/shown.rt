@@ -64,16 +64,16 @@ fn read_other(alloc: Global, text: &[u8], agents: u32) -> Result<Shown, LineErro
     if is_trace_line(items.as_slice()) {
         return Ok(Shown::Skipped);
     }
-    read_session(alloc, text, agents)
+    read_session(text, agents)
 }
 
 /// What a line of a session shows: a command, as a line of a script has it, or else what an agent
 /// got, as a line of a run's output has it. `Form` if it is neither.
 #[tactic(auto, unfolding(crate::specs::Shown::session_shown))]
-fn read_session(alloc: Global, text: &[u8], agents: u32) -> Result<Shown, LineError>
+fn read_session(text: &[u8], agents: u32) -> Result<Shown, LineError>
     ensures { GivesUnless (λ shown. shown) result (session_shown agents text.now) }
 {
-    match read_one_step(alloc, text, agents) {
+    match read_one_step(text, agents) {
         Ok(step) => command_shown(step),
         Err(LineError::Form) => read_seen(&mut Items::new(text), agents),
         Err(LineError::Memory) => Err(LineError::Memory),

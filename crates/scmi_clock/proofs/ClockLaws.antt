@@ -1,5 +1,5 @@
--- The clock protocol keeps the laws of a protocol.
-use Rattle.std.proofs.Common.{rules, ◌≡◌, ◌⊎◌, inl, inr, ℕ, suc, ◌+◌, ◌-◌, ◌*◌, ◌/◌, ◌≤◌, ◌==◌, ◌&&◌, Bool, true, false, not, List, [], ◌∷◌, length, take, drop, Option, Some, None, option_map, unwrap_or, refl, sym, ap, ◌∙◌, subst, arith, if◌then◌else◌}
+-- The clock protocol keeps the laws of a protocol, and views that agree on the board give the same replies.
+use Rattle.std.proofs.Common.{rules, ◌≡◌, ◌⊎◌, inl, inr, ℕ, suc, ◌+◌, ◌-◌, ◌*◌, ◌/◌, ◌≤◌, ◌==◌, ◌&&◌, Bool, true, false, not, List, [], ◌∷◌, length, take, drop, Option, Some, None, option_map, unwrap_or, refl, sym, ap, ◌∙◌, subst, arith, if◌then◌else◌, ◌<◌, IfSome}
 use Rattle.std.specs.Prelude.{min}
 use Rattle.std.specs.List.{flat_map}
 use Rattle.std.specs.Option.{option_or}
@@ -21,33 +21,12 @@ use Rattle.scmi_plan.specs.declared.effect.Effect.TheVariants as effect
 use Rattle.scmi_plan.specs.declared.resource.Resource.TheVariants as resource
 use Rattle.scmi_base.specs.Protocol.{HasResource, IsProtocol, Succeeds, change_wanted, resource_changed}
 use Rattle.scmi_base.proofs.CheckedReplies.{by_checks, checked, found, free_of, may_alone, no_room, not_forbidden, passed, room_of, set-allowed}
-use Rattle.scmi_clock.specs.ClockProtocol.{busy_in, clock_effect, clock_protocol, later_effect, may_in, only_reads, switches_off}
+use Rattle.scmi_clock.proofs.RatesWithin.{rates-within}
+use Rattle.scmi_clock.specs.ClockProtocol.{busy_in, clock_effect, clock_protocol, later_effect, may_in, switches_off}
 use Rattle.scmi_clock.specs.ClockReply.{ClockView, clock_reply, config_checks, disables_kept, most_rates, no_clock, past_end, rates_words, set_checks}
-use Rattle.scmi_clock.specs.ClockTable.{enabled_now, rate_later, rate_now, set_rate}
+use Rattle.scmi_clock.specs.ClockTable.{enabled_now, only_reads, rate_later, rate_now, set_clock, set_rate}
 use Rattle.scmi_clock.specs.SetFlags.{is_asynchronous, is_response_wanted}
-
--- two words a rate
-length-rates : (xs : List ℕ) → length (flat_map rate_words xs) ≡ 2 * length xs
-length-rates [] = refl
-length-rates (x ∷ xs) = let rest = length-rates xs in omega (arith, rest)
-
--- this many rates have room after the status and the flags word
-most-within : (words : ℕ) → 8 ≤ words → 2 + 2 * ((words - 2) / 2) ≤ words
-most-within words eight = let pairs = mul-div-le (words - 2) 2 in omega (arith, eight, pairs)
-
-rates-within : (channel : AgentChannel) → IsChannel channel → (r : SupportedRates) (index : ℕ) → 1 + length (rates_words channel r index) ≤ channel.words
-rates-within channel law (rates.list list) index =
-    let count = min (most_rates channel) (length list - index) in
-    let pairs : length (flat_map rate_words (take count (drop index list))) ≡ 2 * length (take count (drop index list)) = length-rates (take count (drop index list)) in
-    let taken : length (take count (drop index list)) ≡ min count (length (drop index list)) = length-take count (drop index list) in
-    let few : min count (length (drop index list)) ≤ count = min-le_left count (length (drop index list)) in
-    let most : count ≤ most_rates channel = min-le_left (most_rates channel) (length list - index) in
-    let room : 2 + 2 * most_rates channel ≤ channel.words = most-within channel.words law.0 in
-    short (length (flat_map rate_words (take count (drop index list)))) (length (take count (drop index list))) (min count (length (drop index list))) count (most_rates channel) channel.words pairs taken few most room
-  where
-    short : (rates taken least count most words : ℕ) → rates ≡ 2 * taken → taken ≡ least → least ≤ count → count ≤ most → 2 + 2 * most ≤ words → 1 + suc rates ≤ words
-    short rates taken least count most words pairs is few upto room = omega (arith, pairs, is, few, upto, room)
-rates-within channel law (rates.steps low high step) index = law.0
+use Rattle.std.proofs.lemmas.Bool.{leb-false, cases_Bool, or_parts}
 
 within : (board : Board) (v : ClockView) (c : ClockCommand) → IsChannel v.channel → length (clock_reply board v c) ≤ v.channel.words
 unfolding clock_reply
@@ -354,3 +333,56 @@ clock_laws = record {
   quiet = quiet;
   acts = acts;
 }
+
+-- two views say the same of each clock of the board, of room and of the channels
+pub record SameView (board : Board) (v w : ClockView) : Type 0 where
+  pub rate : (d : ℕ) → d < length board.clocks → v.rate d ≡ w.rate d
+  pub enabled : (d : ℕ) → d < length board.clocks → v.enabled d ≡ w.enabled d
+  pub may : (d : ℕ) → d < length board.clocks → v.may d ≡ w.may d
+  pub busy : (d : ℕ) → d < length board.clocks → v.busy d ≡ w.busy d
+  pub room : v.room ≡ w.room
+  pub channel : v.channel ≡ w.channel
+
+-- a clock that is not unknown is one of the board
+on_board : (board : Board) (d : ℕ) → no_clock board d ≡ false → d < length board.clocks
+on_board board d h = leb-false (length board.clocks) d (or_parts _ _ h).0
+
+-- then each command has one reply
+pub clock_reply-same : (board : Board) (v w : ClockView) → SameView board v w → (c : ClockCommand) → clock_reply board v c ≡ clock_reply board w c
+unfolding clock_reply
+clock_reply-same board v w s clock.Version = refl
+clock_reply-same board v w s clock.Attributes = rw (s.channel) refl
+clock_reply-same board v w s (clock.MessageAttributes message) = refl
+clock_reply-same board v w s (clock.Describe d index) = rw (s.channel) refl
+clock_reply-same board v w s (clock.ClockAttributes d) = by_clock (cases_Bool (no_clock board d)) where
+  by_clock : ((no_clock board d ≡ true) ⊎ (no_clock board d ≡ false)) → clock_reply board v (clock.ClockAttributes d) ≡ clock_reply board w (clock.ClockAttributes d)
+  by_clock (inl h) = rw h refl
+  by_clock (inr h) = rw (s.enabled d (on_board board d h)) refl
+clock_reply-same board v w s (clock.SetRate flags d rate) = by_clock (cases_Bool (no_clock board d)) where
+  by_clock : ((no_clock board d ≡ true) ⊎ (no_clock board d ≡ false)) → clock_reply board v (clock.SetRate flags d rate) ≡ clock_reply board w (clock.SetRate flags d rate)
+  by_clock (inl h) = rw h refl
+  by_clock (inr h) = let small = on_board board d h in rw (s.may d small, s.busy d small, s.room, s.channel) refl
+clock_reply-same board v w s (clock.GetRate d) = by_clock (cases_Bool (no_clock board d)) where
+  by_clock : ((no_clock board d ≡ true) ⊎ (no_clock board d ≡ false)) → clock_reply board v (clock.GetRate d) ≡ clock_reply board w (clock.GetRate d)
+  by_clock (inl h) = rw h refl
+  by_clock (inr h) = rw (s.rate d (on_board board d h)) refl
+clock_reply-same board v w s (clock.Config d attributes) = by_clock (cases_Bool (no_clock board d)) where
+  by_clock : ((no_clock board d ≡ true) ⊎ (no_clock board d ≡ false)) → clock_reply board v (clock.Config d attributes) ≡ clock_reply board w (clock.Config d attributes)
+  by_clock (inl h) = rw h refl
+  by_clock (inr h) = rw (s.may d (on_board board d h)) refl
+
+-- whether clocks are busy, and whether there is room, is read by a set of a rate alone
+pub clock_reply-loaded : (board : Board) (v w : ClockView) (c : ClockCommand) → v.rate ≡ w.rate → ((d : ℕ) → v.enabled d ≡ w.enabled d) → v.may ≡ w.may → v.channel ≡ w.channel
+    → IfSome (set_clock c) (λ set. (d : ℕ) → d < length board.clocks → v.busy d ≡ w.busy d) → IfSome (set_clock c) (λ set. v.room ≡ w.room)
+    → clock_reply board v c ≡ clock_reply board w c
+unfolding clock_reply
+clock_reply-loaded board v w clock.Version rate enabled may channel busy room = refl
+clock_reply-loaded board v w clock.Attributes rate enabled may channel busy room = rw (channel) refl
+clock_reply-loaded board v w (clock.MessageAttributes message) rate enabled may channel busy room = refl
+clock_reply-loaded board v w (clock.ClockAttributes d) rate enabled may channel busy room = rw (enabled d) refl
+clock_reply-loaded board v w (clock.Describe d index) rate enabled may channel busy room = rw (channel) refl
+clock_reply-loaded board v w (clock.SetRate flags d r) rate enabled may channel busy room =
+    clock_reply-same board v w
+    (record { rate = λ e small. ap (λ f. f e) rate; enabled = λ e small. enabled e; may = λ e small. ap (λ f. f e) may; busy = busy; room = room; channel = channel }) (clock.SetRate flags d r)
+clock_reply-loaded board v w (clock.GetRate d) rate enabled may channel busy room = rw (rate) refl
+clock_reply-loaded board v w (clock.Config d attributes) rate enabled may channel busy room = rw (may) refl

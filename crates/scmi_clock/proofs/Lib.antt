@@ -4,6 +4,6 @@ pub mod Rounds
 pub mod StepRates
 pub mod ListRates
 pub mod Flags
-pub mod ReplySame
 pub mod RoundingExamples
+pub mod RatesWithin
 pub mod ClockLaws

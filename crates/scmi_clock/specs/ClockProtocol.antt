@@ -1,15 +1,14 @@
 -- The clock protocol as the relation that each protocol is.
-use Rattle.std.specs.Prelude.{ℕ, Bool, true, false, not, Option, None, option_map}
+use Rattle.std.specs.Prelude.{ℕ, Bool, false, not, Option, None, option_map}
 use Rattle.std.specs.Option.{option_or}
 use Rattle.scmi_codec.specs.declared.clock_command.ClockCommand.{ClockCommand}
-use Rattle.scmi_codec.specs.declared.clock_command.ClockCommand.TheVariants as clock
 use Rattle.scmi_plan.specs.declared.effect.Effect.{Effect}
 use Rattle.scmi_plan.specs.declared.effect.Effect.TheVariants as effect
 use Rattle.scmi_plan.specs.declared.resource.Resource.{Resource}
 use Rattle.scmi_plan.specs.declared.resource.Resource.TheVariants as resource
 use Rattle.scmi_base.specs.Protocol.{Protocol}
 use Rattle.scmi_clock.specs.ClockReply.{ClockView, clock_reply}
-use Rattle.scmi_clock.specs.ClockTable.{enabled_now, rate_later, rate_now}
+use Rattle.scmi_clock.specs.ClockTable.{enabled_now, only_reads, rate_later, rate_now}
 
 -- a clock that is given a rate, or else one that is enabled or disabled
 abbrev pub clock_effect : Option (ℕ × ℕ) → Option (ℕ × Bool) → Option Effect
@@ -28,12 +27,6 @@ may_in v (resource.Clock c) = v.may c
 abbrev pub busy_in : ClockView → Resource → Bool
 busy_in v (resource.Domain d) = false
 busy_in v (resource.Clock c) = v.busy c
-
--- whether a command only reads: it sets no rate, and enables or disables no clock
-abbrev pub only_reads : ClockCommand → Bool
-only_reads (clock.SetRate flags c rate) = false
-only_reads (clock.Config c attributes) = false
-only_reads _ = true
 
 -- whether a change switches a clock off
 abbrev pub switches_off : Effect → Bool

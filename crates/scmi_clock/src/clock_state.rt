@@ -9,9 +9,7 @@ ghost use Rattle.scmi_codec.specs.Payload.{if_success};
 
 use crate::checks::{RateSet, check_config, check_set};
 use crate::clock_done::ClockDone;
-use crate::discovery::{
-    attributes, clock_attributes, current_rate, describe, message_attributes, version,
-};
+use crate::reads::read;
 use scmi_base::BaseState;
 use scmi_codec::{ClockCommand, Payload, SUCCESS, payload_of, set_payload, set_refusal};
 use scmi_plan::{CLOCKS, Load, Plan};
@@ -166,20 +164,13 @@ impl ClockState {
             (if_success reply.new.items (enabled_now command)) }
     {
         match command {
-            ClockCommand::Version => version(reply),
-            ClockCommand::Attributes => attributes(plan, plan.channel(caller), reply),
-            ClockCommand::MessageAttributes { message } => message_attributes(message, reply),
-            ClockCommand::ClockAttributes { clock } => clock_attributes(plan, self, clock, reply),
-            ClockCommand::Describe { clock, index } => {
-                describe(plan, plan.channel(caller), clock, index, reply);
-            }
             ClockCommand::SetRate { flags, clock, rate } => {
                 return self.set_rate(plan, base, caller, flags, clock, rate, load, reply);
             }
-            ClockCommand::GetRate { clock } => current_rate(plan, self, clock, reply),
             ClockCommand::Config { clock, attributes } => {
                 self.configure(plan, base, caller, clock, attributes, reply);
             }
+            _ => read(plan, self, caller, command, reply),
         }
         None
     }

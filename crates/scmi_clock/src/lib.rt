@@ -10,7 +10,7 @@
 mod checks;
 mod clock_done;
 mod clock_state;
-mod discovery;
+mod reads;
 mod rounding;
 mod set_flags;
 

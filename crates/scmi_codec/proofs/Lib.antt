@@ -3,5 +3,5 @@ pub mod WordLemmas
 pub mod AreaLemmas
 pub mod ShortLemmas
 pub mod Listed
-pub mod Commands
+pub mod MessageTables
 pub mod Numbers

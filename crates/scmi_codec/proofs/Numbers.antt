@@ -1,6 +1,5 @@
 -- The numbers of the standard and of the profile that code and definitions share, each as it is written there.
 use Rattle.std.proofs.Common.{◌≡◌, ℕ, List, [], ◌∷◌, codes, map, refl}
-use Rattle.scmi_codec.specs.Listing.{protocols, rows_of, words_of}
 use Rattle.scmi_codec.specs.Status.{status_word, status_name}
 use Rattle.scmi_codec.specs.declared.area.TheConstants.{AREA_BYTES}
 use Rattle.scmi_codec.specs.declared.base_command.TheConstants.{BASE_PROTOCOL}
@@ -57,35 +56,3 @@ status_names
     : map status_name (Success ∷ NotSupported ∷ InvalidParameters ∷ Denied ∷ NotFound ∷ OutOfRange ∷ Busy ∷ CommsError ∷ GenericError ∷ HardwareError ∷ ProtocolError ∷ [])
     ≡ codes "SUCCESS" ∷ codes "NOT_SUPPORTED" ∷ codes "INVALID_PARAMETERS" ∷ codes "DENIED" ∷ codes "NOT_FOUND" ∷ codes "OUT_OF_RANGE" ∷ codes "BUSY" ∷ codes "COMMS_ERROR" ∷ codes "GENERIC_ERROR" ∷ codes "HARDWARE_ERROR" ∷ codes "PROTOCOL_ERROR" ∷ []
 status_names = refl
-
--- of each message its id, and the words of its payload, of its reply and of its delayed response behind their
--- status; of a list as many as it has at least
-words_listed : ℕ → List (ℕ × ℕ × ℕ × ℕ)
-words_listed protocol = map (λ row. (row.id, words_of row.asks, words_of row.gives, words_of row.later)) (rows_of protocol)
-
-base_messages
-    : words_listed 0x10
-    ≡ (0x0, 0, 1, 0) ∷ (0x1, 0, 1, 0) ∷ (0x2, 1, 1, 0) ∷ (0x3, 0, 4, 0) ∷ (0x4, 0, 4, 0) ∷ (0x5, 0, 1, 0) ∷ (0x6, 1, 1, 0) ∷ (0x7, 1, 5, 0)
-    ∷ (0x9, 3, 0, 0) ∷ (0xa, 4, 0, 0) ∷ (0xb, 2, 0, 0) ∷ []
-unfolding words_listed rows_of
-base_messages = refl
-
-power_messages
-    : words_listed 0x11
-    ≡ (0x0, 0, 1, 0) ∷ (0x1, 0, 4, 0) ∷ (0x2, 1, 1, 0) ∷ (0x3, 1, 5, 0) ∷ (0x4, 3, 0, 2) ∷ (0x5, 1, 1, 0) ∷ (0x6, 2, 0, 0) ∷ []
-unfolding words_listed rows_of
-power_messages = refl
-
-clock_messages
-    : words_listed 0x14
-    ≡ (0x0, 0, 1, 0) ∷ (0x1, 0, 1, 0) ∷ (0x2, 1, 1, 0) ∷ (0x3, 1, 5, 0) ∷ (0x4, 2, 1, 0) ∷ (0x5, 4, 0, 3) ∷ (0x6, 1, 2, 0) ∷ (0x7, 2, 0, 0) ∷ []
-unfolding words_listed rows_of
-clock_messages = refl
-
--- of each protocol its id, name and version
-protocols_listed : List (ℕ × List ℕ × ℕ)
-protocols_listed = map (λ row. (row.id, row.name, row.version)) protocols
-
-protocol_rows : protocols_listed ≡ (0x10, codes "base", 0x00020000) ∷ (0x11, codes "power", 0x00020000) ∷ (0x14, codes "clock", 0x00010000) ∷ []
-unfolding protocols_listed
-protocol_rows = refl

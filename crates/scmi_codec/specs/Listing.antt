@@ -48,7 +48,7 @@ protocol_in id (row ∷ rows) = if row.id == id then Some row else protocol_in i
 abbrev pub protocol_row : ℕ → Option Protocol
 protocol_row id = protocol_in id protocols
 
--- the messages of a protocol of the profile
+-- the messages of a protocol; none of one that is not of the profile
 abbrev pub messages_of : ℕ → List Said
 messages_of protocol = option_map_or (λ row. row.messages) (protocol_row protocol) []
 
@@ -64,7 +64,7 @@ power_rows = messages_of 0x11
 abbrev pub clock_rows : List Said
 clock_rows = messages_of 0x14
 
--- the messages of a protocol; none of one that is not of the profile
+-- the same, of which a proof sees what is listed only where it asks for it
 unfoldable pub rows_of : ℕ → List Said
 rows_of protocol = messages_of protocol
 

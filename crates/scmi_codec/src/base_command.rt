@@ -1,8 +1,10 @@
 //! The commands of the base protocol.
 ghost use Rattle.std.specs.Prelude.{◌≡◌};
 ghost use Rattle.scmi_codec.specs.BaseCommand.{base_of, base_id, base_words};
+ghost use Rattle.scmi_codec.specs.Listing.{is_listed};
 
 use crate::listing::misfit;
+use crate::messages::{HeldRow, MessageRow, Part, rows};
 use crate::payload::{Payload, payload_of};
 use crate::status::Status;
 
@@ -11,6 +13,21 @@ pub const BASE_PROTOCOL: u8 = 0x10;
 
 /// The version of the base protocol: major 2, minor 0.
 pub const BASE_VERSION: u32 = 0x0002_0000;
+
+/// The messages of the base protocol, 0x10.
+pub const BASE_MESSAGES: [HeldRow; 11] = rows![
+    0x0 PROTOCOL_VERSION () -> (Version);
+    0x1 PROTOCOL_ATTRIBUTES () -> (Counts);
+    0x2 PROTOCOL_MESSAGE_ATTRIBUTES (Message) -> (Attributes);
+    0x3 BASE_DISCOVER_VENDOR () -> (Name);
+    0x4 BASE_DISCOVER_SUB_VENDOR () -> (Name);
+    0x5 BASE_DISCOVER_IMPLEMENTATION_VERSION () -> (Implementation);
+    0x6 BASE_DISCOVER_LIST_PROTOCOLS (Skip) -> (Protocols);
+    0x7 BASE_DISCOVER_AGENT (Agent) -> (Agent, Name);
+    0x9 BASE_SET_DEVICE_PERMISSIONS (Subject, Device, PermitFlags) -> ();
+    0xa BASE_SET_PROTOCOL_PERMISSIONS (Subject, Device, Protocol, PermitFlags) -> ();
+    0xb BASE_RESET_AGENT_CONFIGURATION (Subject, ResetFlags) -> ();
+];
 
 /// A command of the base protocol (DEN0056B, base protocol).
 #[derive(Clone, Copy, PartialEq, Eq, Debug)]
@@ -47,6 +64,15 @@ pub enum BaseCommand {
 }
 
 impl BaseCommand {
+    /// Whether the protocol has a message. An image that only answers has the ids from here, and none
+    /// of the tables.
+    #[tactic(auto, unfolding(crate::specs::Listing::rows_of))]
+    pub(crate) fn has(id: u32) -> bool
+        ensures { result ≡ is_listed 0x10 id }
+    {
+        id < 0x8 || id >= 0x9 && id <= 0xb
+    }
+
     /// The command of a message id and payload words: NOT_SUPPORTED for an unknown id, then
     /// PROTOCOL_ERROR for another number of words than the command has.
     #[tactic(auto, unfolding(crate::specs::Listing::rows_of))]

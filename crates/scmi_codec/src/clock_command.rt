@@ -1,8 +1,10 @@
 //! The commands of the clock protocol.
 ghost use Rattle.std.specs.Prelude.{◌≡◌};
 ghost use Rattle.scmi_codec.specs.ClockCommand.{clock_of, clock_id, clock_words};
+ghost use Rattle.scmi_codec.specs.Listing.{is_listed};
 
 use crate::listing::misfit;
+use crate::messages::{HeldRow, MessageRow, Part, rows};
 use crate::payload::{Payload, payload_of};
 use crate::rate::{rate_of, rate_words};
 use crate::status::Status;
@@ -12,6 +14,18 @@ pub const CLOCK_PROTOCOL: u8 = 0x14;
 
 /// The version of the clock protocol: major 1, minor 0 (own).
 pub const CLOCK_VERSION: u32 = 0x0001_0000;
+
+/// The messages of the clock protocol, 0x14.
+pub const CLOCK_MESSAGES: [HeldRow; 8] = rows![
+    0x0 PROTOCOL_VERSION () -> (Version);
+    0x1 PROTOCOL_ATTRIBUTES () -> (Clocks);
+    0x2 PROTOCOL_MESSAGE_ATTRIBUTES (Message) -> (Attributes);
+    0x3 CLOCK_ATTRIBUTES (Clock) -> (ClockAttributes, Name);
+    0x4 CLOCK_DESCRIBE_RATES (Clock, Index) -> (Rates);
+    0x5 CLOCK_RATE_SET (RateFlags, Clock, Rate) -> () later (Clock, Rate);
+    0x6 CLOCK_RATE_GET (Clock) -> (Rate);
+    0x7 CLOCK_CONFIG_SET (Clock, ClockAttributes) -> ();
+];
 
 /// A command of the clock protocol (DEN0056B, clock management protocol). Rates are in Hz.
 #[derive(Clone, Copy, PartialEq, Eq, Debug)]
@@ -27,6 +41,15 @@ pub enum ClockCommand {
 }
 
 impl ClockCommand {
+    /// Whether the protocol has a message. An image that only answers has the ids from here, and none
+    /// of the tables.
+    #[tactic(auto, unfolding(crate::specs::Listing::rows_of))]
+    pub(crate) fn has(id: u32) -> bool
+        ensures { result ≡ is_listed 0x14 id }
+    {
+        id <= 0x7
+    }
+
     /// The command of a message id and payload words: NOT_SUPPORTED for an unknown id, then
     /// PROTOCOL_ERROR for another number of words than the command has.
     #[tactic(auto, unfolding(crate::specs::Listing::rows_of))]

@@ -41,7 +41,7 @@ impl Command {
     }
 
     /// The message of the command with this token, with reserved bits 0.
-    #[tactic(auto, using(crate::proofs::Commands::is_listed))]
+    #[tactic(auto, using(crate::proofs::MessageTables::is_listed))]
     pub fn pack(&self, token: u16) -> Message
         requires { token < TOKENS }
         ensures header { result.header ≡ command_header self.now token }

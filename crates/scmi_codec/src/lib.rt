@@ -37,7 +37,7 @@ pub use area::{
     write_answer, write_message, write_reply, write_response,
 };
 pub use area_reader::status_at;
-pub use base_command::{BASE_PROTOCOL, BASE_VERSION, BaseCommand};
+pub use base_command::{BASE_MESSAGES, BASE_PROTOCOL, BASE_VERSION, BaseCommand};
 pub use channel_area::{
     ChannelAreaError, LEAST_AREA_BYTES, LEAST_PAYLOAD_WORDS, channel_bytes, channel_frame,
     channel_words, is_channel_free, is_channel_size, read_channel_area, read_channel_area_into,
@@ -45,7 +45,7 @@ pub use channel_area::{
     write_channel_response,
 };
 pub use channel_status::ChannelStatus;
-pub use clock_command::{CLOCK_PROTOCOL, CLOCK_VERSION, ClockCommand};
+pub use clock_command::{CLOCK_MESSAGES, CLOCK_PROTOCOL, CLOCK_VERSION, ClockCommand};
 pub use command::Command;
 pub use fault::Fault;
 pub use flag_word::single_flag;
@@ -53,13 +53,13 @@ pub use frame::{Answer, Frame};
 pub use header::{DELAYED_RESPONSE, Header, NOTIFICATION, TOKENS};
 pub use listing::{is_listed, listed_row, message_name, rows_of, wanted_words};
 pub use message::Message;
-pub use messages::{BASE_MESSAGES, CLOCK_MESSAGES, HeldRow, MessageRow, POWER_MESSAGES, Part};
+pub use messages::{HeldRow, MessageRow, Part};
 pub use name::{NAME_BYTES, Name, four_words, name_words};
 pub use payload::{
     PAYLOAD_WORDS, Payload, SUCCESS, is_success, payload_of, refusal, resize, set_payload,
     set_refusal,
 };
-pub use power_command::{POWER_PROTOCOL, POWER_VERSION, PowerCommand};
+pub use power_command::{POWER_MESSAGES, POWER_PROTOCOL, POWER_VERSION, PowerCommand};
 pub use protocols::{HeldProtocol, PROTOCOLS, ProtocolRow, protocol_row};
 pub use rate::{rate_of, rate_words};
 pub use rate_flags::RateFlags;

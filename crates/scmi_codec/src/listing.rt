@@ -3,10 +3,10 @@ ghost use Rattle.std.specs.Prelude.{◌≡◌, ◌≤◌, map, IfSome};
 ghost use Rattle.std.specs.Option.{option_map, option_map_or, option_copied};
 ghost use Rattle.scmi_codec.specs.Listing.{said, rows_of, row_in, listed_row, message_name, is_listed, misfit, wanted_words, words_of, size_of};
 
-use crate::base_command::BASE_PROTOCOL;
-use crate::clock_command::CLOCK_PROTOCOL;
+use crate::base_command::{BASE_PROTOCOL, BaseCommand};
+use crate::clock_command::{CLOCK_PROTOCOL, ClockCommand};
 use crate::messages::{HeldRow, Part};
-use crate::power_command::POWER_PROTOCOL;
+use crate::power_command::{POWER_PROTOCOL, PowerCommand};
 use crate::protocols::protocol_row;
 use crate::status::Status;
 
@@ -21,16 +21,14 @@ pub fn message_name(protocol: u8, id: u8) -> Option<&'static str>
 }
 
 /// Whether a protocol of the profile has a message.
-///
-/// An image that only answers has the ids from here, and none of the tables.
 #[tactic(auto, unfolding(crate::specs::Listing::rows_of))]
 pub fn is_listed(protocol: u8, id: u32) -> bool
     ensures { result ≡ is_listed protocol id }
 {
     match protocol {
-        BASE_PROTOCOL => id < 0x8 || id >= 0x9 && id <= 0xb,
-        POWER_PROTOCOL => id <= 0x6,
-        CLOCK_PROTOCOL => id <= 0x7,
+        BASE_PROTOCOL => BaseCommand::has(id),
+        POWER_PROTOCOL => PowerCommand::has(id),
+        CLOCK_PROTOCOL => ClockCommand::has(id),
         _ => false,
     }
 }

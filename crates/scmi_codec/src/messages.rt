@@ -78,40 +78,4 @@ macro_rules! rows {
     };
 }
 
-/// The messages of the base protocol, 0x10.
-pub const BASE_MESSAGES: [HeldRow; 11] = rows![
-    0x0 PROTOCOL_VERSION () -> (Version);
-    0x1 PROTOCOL_ATTRIBUTES () -> (Counts);
-    0x2 PROTOCOL_MESSAGE_ATTRIBUTES (Message) -> (Attributes);
-    0x3 BASE_DISCOVER_VENDOR () -> (Name);
-    0x4 BASE_DISCOVER_SUB_VENDOR () -> (Name);
-    0x5 BASE_DISCOVER_IMPLEMENTATION_VERSION () -> (Implementation);
-    0x6 BASE_DISCOVER_LIST_PROTOCOLS (Skip) -> (Protocols);
-    0x7 BASE_DISCOVER_AGENT (Agent) -> (Agent, Name);
-    0x9 BASE_SET_DEVICE_PERMISSIONS (Subject, Device, PermitFlags) -> ();
-    0xa BASE_SET_PROTOCOL_PERMISSIONS (Subject, Device, Protocol, PermitFlags) -> ();
-    0xb BASE_RESET_AGENT_CONFIGURATION (Subject, ResetFlags) -> ();
-];
-
-/// The messages of the power domain protocol, 0x11.
-pub const POWER_MESSAGES: [HeldRow; 7] = rows![
-    0x0 PROTOCOL_VERSION () -> (Version);
-    0x1 PROTOCOL_ATTRIBUTES () -> (Domains, Statistics);
-    0x2 PROTOCOL_MESSAGE_ATTRIBUTES (Message) -> (Attributes);
-    0x3 POWER_DOMAIN_ATTRIBUTES (Domain) -> (DomainAttributes, Name);
-    0x4 POWER_STATE_SET (PowerFlags, Domain, State) -> () later (Domain, State);
-    0x5 POWER_STATE_GET (Domain) -> (State);
-    0x6 POWER_STATE_NOTIFY (Domain, Enable) -> ();
-];
-
-/// The messages of the clock protocol, 0x14.
-pub const CLOCK_MESSAGES: [HeldRow; 8] = rows![
-    0x0 PROTOCOL_VERSION () -> (Version);
-    0x1 PROTOCOL_ATTRIBUTES () -> (Clocks);
-    0x2 PROTOCOL_MESSAGE_ATTRIBUTES (Message) -> (Attributes);
-    0x3 CLOCK_ATTRIBUTES (Clock) -> (ClockAttributes, Name);
-    0x4 CLOCK_DESCRIBE_RATES (Clock, Index) -> (Rates);
-    0x5 CLOCK_RATE_SET (RateFlags, Clock, Rate) -> () later (Clock, Rate);
-    0x6 CLOCK_RATE_GET (Clock) -> (Rate);
-    0x7 CLOCK_CONFIG_SET (Clock, ClockAttributes) -> ();
-];
+pub(crate) use rows;

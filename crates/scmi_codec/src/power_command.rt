@@ -1,8 +1,10 @@
 //! The commands of the power domain protocol.
 ghost use Rattle.std.specs.Prelude.{◌≡◌};
 ghost use Rattle.scmi_codec.specs.PowerCommand.{power_of, power_id, power_words};
+ghost use Rattle.scmi_codec.specs.Listing.{is_listed};
 
 use crate::listing::misfit;
+use crate::messages::{HeldRow, MessageRow, Part, rows};
 use crate::payload::{Payload, payload_of};
 use crate::status::Status;
 
@@ -11,6 +13,17 @@ pub const POWER_PROTOCOL: u8 = 0x11;
 
 /// The version of the power domain protocol: major 2, minor 0.
 pub const POWER_VERSION: u32 = 0x0002_0000;
+
+/// The messages of the power domain protocol, 0x11.
+pub const POWER_MESSAGES: [HeldRow; 7] = rows![
+    0x0 PROTOCOL_VERSION () -> (Version);
+    0x1 PROTOCOL_ATTRIBUTES () -> (Domains, Statistics);
+    0x2 PROTOCOL_MESSAGE_ATTRIBUTES (Message) -> (Attributes);
+    0x3 POWER_DOMAIN_ATTRIBUTES (Domain) -> (DomainAttributes, Name);
+    0x4 POWER_STATE_SET (PowerFlags, Domain, State) -> () later (Domain, State);
+    0x5 POWER_STATE_GET (Domain) -> (State);
+    0x6 POWER_STATE_NOTIFY (Domain, Enable) -> ();
+];
 
 /// A command of the power domain protocol (DEN0056B, power domain management protocol).
 #[derive(Clone, Copy, PartialEq, Eq, Debug)]
@@ -25,6 +38,15 @@ pub enum PowerCommand {
 }
 
 impl PowerCommand {
+    /// Whether the protocol has a message. An image that only answers has the ids from here, and none
+    /// of the tables.
+    #[tactic(auto, unfolding(crate::specs::Listing::rows_of))]
+    pub(crate) fn has(id: u32) -> bool
+        ensures { result ≡ is_listed 0x11 id }
+    {
+        id <= 0x6
+    }
+
     /// The command of a message id and payload words: NOT_SUPPORTED for an unknown id, then
     /// PROTOCOL_ERROR for another number of words than the command has.
     #[tactic(auto, unfolding(crate::specs::Listing::rows_of))]

@@ -4,10 +4,10 @@ ghost use Rattle.std.specs.Prelude.{◌≡◌, map};
 ghost use Rattle.std.specs.Option.{option_map};
 ghost use Rattle.scmi_codec.specs.Listing.{protocol_in, protocol_row, protocol_said};
 
-use crate::base_command::{BASE_PROTOCOL, BASE_VERSION};
-use crate::clock_command::{CLOCK_PROTOCOL, CLOCK_VERSION};
-use crate::messages::{BASE_MESSAGES, CLOCK_MESSAGES, HeldRow, POWER_MESSAGES};
-use crate::power_command::{POWER_PROTOCOL, POWER_VERSION};
+use crate::base_command::{BASE_MESSAGES, BASE_PROTOCOL, BASE_VERSION};
+use crate::clock_command::{CLOCK_MESSAGES, CLOCK_PROTOCOL, CLOCK_VERSION};
+use crate::messages::HeldRow;
+use crate::power_command::{POWER_MESSAGES, POWER_PROTOCOL, POWER_VERSION};
 
 /// A protocol: its id, its short name, its version (the upper half major, the lower minor), and its
 /// messages.

@@ -14,8 +14,8 @@ use Rattle.scmi_plan.specs.Board.{Board, channel_of}
 use Rattle.scmi_plan.specs.declared.resource.Resource.TheVariants as resource
 use Rattle.scmi_plan.specs.declared.scope.Scope.{Scope}
 use Rattle.scmi_base.proofs.MaySame.{may-same}
-use Rattle.scmi_power.proofs.ReplySame as power_same
-use Rattle.scmi_clock.proofs.ReplySame as clock_same
+use Rattle.scmi_power.proofs.PowerLaws as power_same
+use Rattle.scmi_clock.proofs.ClockLaws as clock_same
 use Rattle.scmi_codec.specs.declared.power_command.PowerCommand.{PowerCommand}
 use Rattle.scmi_codec.specs.declared.clock_command.ClockCommand.{ClockCommand}
 use Rattle.scmi_plan.specs.declared.load.Load.{Load}

@@ -21,6 +21,9 @@ fn lacks_protocol(plan: &Plan, header: Header) -> bool
     ensures { result ≡ lacks_protocol plan.now header }
 {
     header.kind() == 0
-        && matches!(header.protocol(), POWER_PROTOCOL | CLOCK_PROTOCOL)
-        && !plan.serves(header.protocol())
+        && match header.protocol() {
+            POWER_PROTOCOL => !plan.has_power(),
+            CLOCK_PROTOCOL => !plan.has_clocks(),
+            _ => false,
+        }
 }

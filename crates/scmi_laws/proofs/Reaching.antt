@@ -7,9 +7,8 @@ use Rattle.std.proofs.lemmas.List.Elements.{All-pop}
 use Rattle.std.proofs.lemmas.Bool.{eq-eqb, eqb-true}
 use Rattle.scmi_codec.specs.Header.{HeaderFields}
 use Rattle.scmi_codec.specs.Payload.{begins_with_success}
-use Rattle.scmi_codec.specs.Reply.{Check, other_bits, reply_unless}
+use Rattle.scmi_codec.specs.Reply.{other_bits}
 use Rattle.scmi_codec.specs.declared.status.Status.{Status}
-use Rattle.scmi_codec.specs.declared.status.Status.TheVariants.{NotFound, InvalidParameters, Denied}
 use Rattle.scmi_codec.specs.declared.base_command.BaseCommand.{BaseCommand}
 use Rattle.scmi_codec.specs.declared.base_command.BaseCommand.TheVariants as base
 use Rattle.scmi_codec.specs.declared.power_command.PowerCommand.{PowerCommand}
@@ -19,6 +18,7 @@ use Rattle.scmi_codec.specs.declared.frame.Frame.{Frame}
 use Rattle.scmi_codec.specs.declared.frame.Frame.TheVariants.{Good, Malformed}
 use Rattle.scmi_plan.specs.Board.{Board}
 use Rattle.scmi_base.specs.BaseReply.{base_reply, no_agent}
+use Rattle.scmi_base.proofs.BaseLaws.{reset-trusted}
 use Rattle.scmi_plan.specs.declared.scope.Scope.{Scope}
 use Rattle.scmi_power.specs.PowerReply.{PowerView, power_reply}
 use Rattle.scmi_power.specs.PowerTable.{notification, set_later}
@@ -79,19 +79,6 @@ set-agent : {X : Type 0} (a : ℕ) (set_of : X → PendingSet) → ((x : X) → 
     → (o : Option X) (p : PendingSet) → option_map set_of o ≡ Some p → p.agent ≡ a
 set-agent a set_of own None p is = absurd (cc)
 set-agent a set_of own (Some x) p is = sym (ap (λ o. (unwrap_or o p).agent) is) ∙ own x
-
--- the checks of a reset, the last of which is whether the caller is trusted
-abbrev checks_with : Bool → Bool → Bool → List Check
-checks_with c1 c2 trusted =
-    (c1, NotFound) ∷ (c2, InvalidParameters) ∷ (not trusted, Denied) ∷ []
-
-reset-trusted : (c1 c2 trusted : Bool)
-    → begins_with_success (reply_unless (checks_with c1 c2 trusted) (0 ∷ [])) ≡ true
-    → trusted ≡ true
-reset-trusted c1 c2 true ok = refl
-reset-trusted true c2 false ok = absurd (cc)
-reset-trusted false true false ok = absurd (cc)
-reset-trusted false false false ok = absurd (cc)
 
 module _ (board : Board) (h : List Event) (a : ℕ) (header : HeaderFields) where
   abbrev success : codec.Command → Success

@@ -9,8 +9,8 @@ use Rattle.scmi_codec.specs.declared.command.Command as codec
 use Rattle.scmi_codec.specs.declared.base_command.BaseCommand.TheVariants as base
 use Rattle.scmi_plan.specs.Board.{Board}
 use Rattle.scmi_plan.specs.declared.scope.Scope.{Scope}
-use Rattle.scmi_power.specs.PowerProtocol as power
-use Rattle.scmi_clock.specs.ClockProtocol as clock
+use Rattle.scmi_power.specs.PowerTable as power
+use Rattle.scmi_clock.specs.ClockTable as clock
 use Rattle.scmi_core.specs.ReadCommand.{command_on}
 use Rattle.scmi_core.specs.declared.event.Event.{Event}
 use Rattle.scmi_core.specs.Agents.{frame_from}

@@ -9,7 +9,7 @@ use Rattle.scmi_codec.specs.declared.fault.Fault.TheVariants.{Busy, Denied, Gene
 use Rattle.scmi_core.specs.BoardB.{board_b}
 use Rattle.scmi_plan.specs.declared.effect.Effect.TheVariants.{State, Rate, Enabled}
 use Rattle.scmi_text.specs.Fields.{first_agent, first_flag, first_message, first_named_fault, payload_behind, with_word}
-use Rattle.scmi_text.specs.PackedStep.{call_with, raw_with}
+use Rattle.scmi_text.specs.StepHead.{call_with, raw_with}
 use Rattle.scmi_text.specs.StepText.{advance_head, agent_head, command_head, first_effect, first_head, first_refusal, head_of, payload_of, report_head, step_of_line, with_step}
 use Rattle.scmi_text.specs.TextLines.{after_each_line}
 use Rattle.scmi_text.specs.declared.step.AgentStep.TheVariants as agent

@@ -7,7 +7,7 @@ use Rattle.scmi_board.specs.Number.{number_of}
 use Rattle.scmi_codec.specs.declared.fault.Fault.TheVariants.{HardwareError}
 use Rattle.scmi_plan.specs.Board.{Board}
 use Rattle.scmi_codec.specs.Fault.{fault_in, named_statuses}
-use Rattle.scmi_text.specs.PackedStep.{call_with, raw_with}
+use Rattle.scmi_text.specs.StepHead.{call_with, raw_with}
 use Rattle.scmi_text.specs.declared.step.Call.{Call}
 use Rattle.scmi_text.specs.declared.step.AgentStep.{AgentStep}
 use Rattle.scmi_text.specs.declared.step.AgentStep.TheVariants as agent

@@ -153,7 +153,7 @@ pub(crate) fn hardware_step(
 }
 
 /// The one step of a list that has one.
-fn only_step(steps: &StepList) -> Option<Step>
+fn only_step(steps: &StepList<'_>) -> Option<Step>
     ensures { result ≡ only_step steps.now }
 {
     if steps.len() != 1 {

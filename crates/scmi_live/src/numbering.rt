@@ -6,10 +6,9 @@ ghost use Rattle.scmi_live.specs.Numbered.{AddsNumbered, HasNoNames, IsInNumbers
 
 use crate::meant::{hardware_step, step_by_names};
 use crate::pieces::{add_byte, copy_of};
-use crate::plain_step::PlainStep;
 use scmi_board::{Lines, TextError, read_board_with_lines};
 use scmi_plan::RawPlan;
-use scmi_text::Step;
+use scmi_text::{PlainStep, Step};
 use std::alloc::{AllocError, Global};
 
 /// A board and a script of the modes `hardware`, as they follow the line of the mode, with numbers

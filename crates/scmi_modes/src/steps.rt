@@ -126,7 +126,11 @@ fn run_script<R: CountedRead, W: Write>(
 }
 
 /// The board and the steps that follow the first line, in a script of this kind.
-fn read_input(alloc: Global, bytes: &[u8], script: ScriptKind) -> Result<(Plan, StepList), RunError>
+fn read_input<'a>(
+    alloc: Global,
+    bytes: &'a [u8],
+    script: ScriptKind,
+) -> Result<(Plan, StepList<'a>), RunError>
     ensures agents { IfOk result (λ read. All (IsStepOf (length read.0.agents)) read.1) }
     ensures kinds { IfOk result (λ read. All (MayHave script) read.1) }
     ensures input { MatchResult result
@@ -141,12 +145,12 @@ fn read_input(alloc: Global, bytes: &[u8], script: ScriptKind) -> Result<(Plan, 
 }
 
 /// The steps of all lines that are left, in a script of this kind.
-fn read_script(
+fn read_script<'a>(
     alloc: Global,
-    lines: &mut Lines<'_>,
+    lines: &mut Lines<'a>,
     agents: u32,
     script: ScriptKind,
-) -> Result<StepList, TextError>
+) -> Result<StepList<'a>, TextError>
     ensures agents { IfOk result (λ steps. All (IsStepOf agents) steps) }
     ensures kinds { IfOk result (λ steps. All (MayHave script) steps) }
     ensures steps { GivesScript (λ steps. steps) result
@@ -163,7 +167,7 @@ fn step_over<W: Write>(
     alloc: Global,
     kind: Kind,
     plan: Plan,
-    steps: &StepList,
+    steps: &StepList<'_>,
     writer: &mut W,
 ) -> Result<(), RunError>
     requires { All (IsStepOf (length plan.agents)) steps.now }
@@ -184,7 +188,7 @@ fn step_over<W: Write>(
 fn step_through<C: Channel, W: Write>(
     alloc: Global,
     plan: Plan,
-    steps: &StepList,
+    steps: &StepList<'_>,
     writer: &mut W,
 ) -> Result<(), RunError>
     requires { All (IsStepOf (length plan.agents)) steps.now }

@@ -2,7 +2,7 @@
 use Rattle.std.specs.Prelude.{ℕ, ◌<◌, ◌≤◌, ◌^◌, ◌≡◌, List, length, get_or}
 use Rattle.std.specs.List.{All}
 use Rattle.scmi_codec.specs.Name.{IsName}
-use Rattle.scmi_plan.specs.Board.{Board, IsChannel, AreHolders, domain_at, clock_at, device_at}
+use Rattle.scmi_plan.specs.Board.{Board, IsChannel, AreHolders, domain_at, clock_at, device_at, serves}
 use Rattle.scmi_plan.specs.Protocols.{AreProtocols}
 use Rattle.scmi_plan.specs.Rates.{HasValidRates, IsSupported}
 use Rattle.scmi_plan.specs.declared.limits.TheConstants.{AGENTS, DOMAINS, CLOCKS, DEVICES}
@@ -58,8 +58,10 @@ pub record AreMasks (devices : List Device) (named : ℕ → Resource) (count : 
   pub rows : length masks ≡ count
   pub holders : (r : ℕ) → r < count → AreHolders devices (named r) (get_or masks r 0)
 
--- what a plan keeps: its board is valid, and its masks are those of the board's devices
+-- what a plan keeps: its board is valid, its masks are those of the board's devices, and its own protocols stand apart
 pub record IsPlan (p : Inside) : Type 0 where
   pub valid : IsValid (board_of p)
   pub domain_masks : AreMasks p.devices.items resource.Domain DOMAINS p.domain_holders
   pub clock_masks : AreMasks p.devices.items resource.Clock CLOCKS p.clock_holders
+  pub power : p.own.power ≡ serves (board_of p) 0x11
+  pub clocks : p.own.clocks ≡ serves (board_of p) 0x14

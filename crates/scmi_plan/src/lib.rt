@@ -20,6 +20,7 @@ mod limits;
 mod load;
 mod mask;
 mod not_on_board;
+mod own_protocols;
 mod plan;
 mod plan_error;
 mod protocols_error;

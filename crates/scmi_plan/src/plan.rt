@@ -25,6 +25,7 @@ use crate::holders::{fill_clock_holders, fill_domain_holders};
 use crate::limits::{AGENTS, CLOCKS, DOMAINS, PENDING_SETS, PROTOCOLS};
 use crate::mask::with_bit;
 use crate::not_on_board::NotOnBoard;
+use crate::own_protocols::{OwnProtocols, lists};
 use crate::plan_error::PlanError;
 use crate::protocols_error::{ProtocolsError, check_protocols};
 use crate::raw_plan::RawPlan;
@@ -55,6 +56,7 @@ pub struct Plan {
     absent: Device,
     free: u32,
     protocols: ArrayVec<u8, PROTOCOLS>,
+    own: OwnProtocols,
     domain_holders: [u32; DOMAINS],
     clock_holders: [u32; CLOCKS],
 }
@@ -139,6 +141,7 @@ impl Plan {
             absent: Device::nothing(),
             free: 0,
             protocols,
+            own: OwnProtocols::of(&OWN_PROTOCOLS),
             domain_holders,
             clock_holders,
         }
@@ -356,6 +359,7 @@ impl Plan {
         check_protocols(ids)?;
         self.protocols.clear();
         let _ = self.protocols.try_extend_from_slice(ids);
+        self.own = OwnProtocols::of(ids);
         Ok(())
     }
 
@@ -372,7 +376,23 @@ impl Plan {
     pub fn serves(&self, protocol: u8) -> bool
         ensures { result ≡ serves self.now protocol }
     {
-        self.protocols().iter().any(|id| *id == protocol)
+        lists(self.protocols(), protocol)
+    }
+
+    /// Whether the board has the power domain protocol. It is asked of each command.
+    #[inline(always)]
+    pub fn has_power(&self) -> bool
+        ensures { result ≡ serves self.now 0x11 }
+    {
+        self.own.power
+    }
+
+    /// Whether the board has the clock protocol. It is asked of each command.
+    #[inline(always)]
+    pub fn has_clocks(&self) -> bool
+        ensures { result ≡ serves self.now 0x14 }
+    {
+        self.own.clocks
     }
 
     /// The number of power domains, at most 32. They are numbered from 0.

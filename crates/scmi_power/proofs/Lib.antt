@@ -1,3 +1,2 @@
-pub mod ReplySame
 pub mod AgentBits
 pub mod PowerLaws

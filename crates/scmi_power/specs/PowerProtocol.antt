@@ -1,14 +1,13 @@
 -- The power domain protocol as the relation that each protocol is.
-use Rattle.std.specs.Prelude.{ℕ, ◌==◌, Bool, true, false, option_map}
+use Rattle.std.specs.Prelude.{ℕ, ◌==◌, Bool, false, option_map}
 use Rattle.scmi_codec.specs.declared.power_command.PowerCommand.{PowerCommand}
-use Rattle.scmi_codec.specs.declared.power_command.PowerCommand.TheVariants as power
 use Rattle.scmi_plan.specs.declared.effect.Effect.{Effect}
 use Rattle.scmi_plan.specs.declared.effect.Effect.TheVariants as effect
 use Rattle.scmi_plan.specs.declared.resource.Resource.{Resource}
 use Rattle.scmi_plan.specs.declared.resource.Resource.TheVariants as resource
 use Rattle.scmi_base.specs.Protocol.{Protocol}
 use Rattle.scmi_power.specs.PowerReply.{PowerView, power_reply, state_off}
-use Rattle.scmi_power.specs.PowerTable.{notification, set_later, set_now}
+use Rattle.scmi_power.specs.PowerTable.{notification, only_reads, set_later, set_now}
 
 -- a domain and a state that it is given
 abbrev pub state_effect : ℕ × ℕ → Effect
@@ -23,12 +22,6 @@ may_in v (resource.Clock c) = false
 abbrev pub busy_in : PowerView → Resource → Bool
 busy_in v (resource.Domain d) = v.busy d
 busy_in v (resource.Clock c) = false
-
--- whether a command only reads: it sets no state, and asks for no notifications
-abbrev pub only_reads : PowerCommand → Bool
-only_reads (power.Set flags d state) = false
-only_reads (power.Notify d enable) = false
-only_reads _ = true
 
 -- whether a change switches a domain off
 abbrev pub switches_off : Effect → Bool

@@ -7,12 +7,12 @@
 #![tactic(auto)]
 
 mod checks;
-mod discovery;
 mod domain_attributes;
 mod domain_state;
 mod power_done;
 mod power_effect;
 mod power_state;
+mod reads;
 mod subscribers;
 
 pub use power_done::PowerDone;

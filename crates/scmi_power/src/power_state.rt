@@ -5,15 +5,14 @@ ghost use Rattle.scmi_codec.specs.Payload.{begins_with_success};
 ghost use Rattle.scmi_codec.specs.declared.power_command.PowerCommand.TheVariants.{Set, Notify};
 ghost use Rattle.scmi_plan.specs.Agent.{IsAgent};
 ghost use Rattle.scmi_plan.specs.declared.limits.TheConstants.{AGENTS, DOMAINS};
-ghost use Rattle.scmi_power.specs.PowerReply.{get_reply};
 ghost use Rattle.scmi_power.specs.PowerTable.{reply_to, state_at, state_at_start, set_now, set_later, is_subscribed, only_reads, set_words, notify_words, HasSet, HasNotified, IsKnown, HasRoom};
 ghost use Rattle.scmi_codec.specs.Payload.{if_success};
 
-use crate::checks::{check_domain, check_notify, check_set};
-use crate::discovery::{attributes, domain_attributes, message_attributes, version};
+use crate::checks::{check_notify, check_set};
 use crate::domain_state::starting_state;
 use crate::power_done::PowerDone;
 use crate::power_effect::{NOTHING, PowerEffect};
+use crate::reads::read;
 use crate::subscribers::with_subscriber;
 use scmi_base::BaseState;
 use scmi_codec::{Payload, PowerCommand, SUCCESS, payload_of, set_payload, set_refusal};
@@ -138,21 +137,15 @@ impl PowerState {
         ensures read { only_reads command ≡ true → self.new ≡ self.old }
     {
         match command {
-            PowerCommand::Version => version(reply),
-            PowerCommand::Attributes => attributes(plan, reply),
-            PowerCommand::MessageAttributes { message } => message_attributes(message, reply),
-            PowerCommand::DomainAttributes { domain } => {
-                domain_attributes(plan, plan.channel(caller), domain, reply);
-            }
             PowerCommand::Set {
                 flags,
                 domain,
                 state,
             } => return self.set(plan, base, caller, flags, domain, state, load, reply),
-            PowerCommand::Get { domain } => self.get(plan, domain, reply),
             PowerCommand::Notify { domain, enable } => {
                 self.notify(plan, base, caller, domain, enable, reply);
             }
+            _ => read(plan, self, caller, command, reply),
         }
         NOTHING
     }
@@ -280,16 +273,6 @@ impl PowerState {
                 set_refusal(reply, status);
                 NOTHING
             }
-        }
-    }
-
-    /// 0x5: a domain's state; NOT_FOUND for a domain that the board lacks.
-    fn get(&self, plan: &Plan, domain: u32, reply: &mut Payload)
-        ensures { reply.new.items ≡ get_reply plan.now domain (state_at self.now domain) }
-    {
-        match check_domain(plan, domain) {
-            Ok(()) => set_payload(reply, &[SUCCESS, self.state(domain)]),
-            Err(status) => set_refusal(reply, status),
         }
     }
 

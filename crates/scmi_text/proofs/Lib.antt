@@ -1,7 +1,6 @@
 pub mod EightDigits
 pub mod Glyphs
 mod LineExamples
-pub mod Packing
 pub mod Payloads
 pub mod ScriptAgents
 mod ScriptExamples

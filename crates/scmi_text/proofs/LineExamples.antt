@@ -13,7 +13,7 @@ use Rattle.scmi_link.specs.declared.flushed.Flushed.TheVariants as flushed
 use Rattle.scmi_link.specs.declared.served.Served.TheVariants as served
 use Rattle.scmi_link.specs.declared.shut_error.ShutError.TheVariants as shut
 use Rattle.scmi_link.specs.declared.line.Line.TheVariants as line
-use Rattle.scmi_text.specs.PackedStep.{raw_with}
+use Rattle.scmi_text.specs.StepHead.{raw_with}
 use Rattle.scmi_text.specs.ScriptLine.{lines_text}
 use Rattle.scmi_text.specs.StepLine.{step_text}
 use Rattle.scmi_text.specs.declared.step_line.StepLine.TheVariants as step

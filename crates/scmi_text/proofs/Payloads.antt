@@ -1,10 +1,9 @@
 -- The payload words of a line, one after the other.
-use Rattle.std.proofs.Common.{ℕ, ◌≡◌, ◌<◌, ◌≤◌, Bool, true, false, cond, List, [], ◌∷◌, ◌++◌, length, drop, Option, Some, None, refl, sym, ap, ◌∙◌, nat_lt, arith}
+use Rattle.std.proofs.Common.{ℕ, ◌≡◌, ◌<◌, ◌≤◌, Bool, true, false, cond, List, [], ◌∷◌, ◌++◌, length, Option, Some, None, refl, sym, ap, ◌∙◌, nat_lt, arith}
 use Rattle.std.proofs.lemmas.Bool.Decides.{nat_tests}
-use Rattle.std.proofs.lemmas.List.{drop-append-le}
 use Rattle.std.proofs.lemmas.Option.{same_Some}
 use Rattle.scmi_board.specs.Items.{◌>>=◌, ItemsView, first_number, no_item}
-use Rattle.scmi_board.specs.LineError.{Fails, FailsUnless}
+use Rattle.scmi_board.specs.LineError.{Fails}
 use Rattle.scmi_board.specs.Number.{number_of}
 use Rattle.scmi_board.specs.declared.line_error.LineError.{LineError}
 use Rattle.scmi_board.specs.declared.line_error.LineError.TheVariants.{Form, Memory}
@@ -99,20 +98,10 @@ pub word_fails : (words : List ℕ) (view : ItemsView) (total : Option (List ℕ
 word_fails words view total Form is some so_far = word_stop words view total is some so_far
 word_fails words view total Memory is some so_far = is
 
-pub word_fails_unless : (words : List ℕ) (view : ItemsView) (total : Option (List ℕ)) (error : LineError) → Fails error (first_number 32 view) → no_item view ≡ None → payload_behind words view ≡ total → FailsUnless error total
-word_fails_unless words view total Form is some so_far = word_stop words view total is some so_far
-word_fails_unless words view total Memory is some so_far = tt
-
 done_of : (words : List ℕ) (items : List (List ℕ)) (whole : Bool) → no_item (view_of items whole) ≡ Some tt → payload_behind words (view_of items whole) ≡ Some words
 done_of words [] true none = no_word words true
 done_of words [] false none = absurd cc
 done_of words (item ∷ items) whole none = absurd cc
-
--- one word more, which follows those that were there before
-pub word_behind : (before words after : List ℕ) (view rest : ItemsView) (word : ℕ) (total : Option (List ℕ)) → after ≡ words ++ word ∷ [] → length before ≤ length words → first_number 32 view ≡ Some (word, rest) → length (drop (length before) words) < PAYLOAD_WORDS → payload_behind (drop (length before) words) view ≡ total → payload_behind (drop (length before) after) rest ≡ total
-word_behind before words after view rest word total pushed kept is few so_far =
-    let cut : drop (length before) after ≡ drop (length before) words ++ word ∷ [] = ap (drop (length before)) pushed ∙ drop-append-le (length before) words (word ∷ []) kept in
-    ap (λ (ws : List ℕ). payload_behind ws rest) cut ∙ word_more (drop (length before) words) view rest word total is few so_far
 
 -- no item is left
 pub words_done : (words : List ℕ) (view : ItemsView) (total : Option (List ℕ)) → no_item view ≡ Some tt → payload_behind words view ≡ total → total ≡ Some words

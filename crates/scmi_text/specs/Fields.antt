@@ -1,5 +1,5 @@
 -- What the lines of scripts have behind their first word.
-use Rattle.std.specs.Prelude.{ℕ, ◌&&◌, Bool, nat_eq, nat_le, nat_lt, ◌++◌, if◌then◌else◌, List, [], ◌∷◌, length, map, Option, Some, None}
+use Rattle.std.specs.Prelude.{ℕ, ◌&&◌, Bool, nat_eq, nat_le, nat_lt, ◌++◌, if◌then◌else◌, List, [], ◌∷◌, length, Option, Some, None}
 use Rattle.scmi_board.specs.Items.{◌>>=◌, ItemsView, first_item, first_number}
 use Rattle.scmi_board.specs.Number.{number_of}
 use Rattle.scmi_board.specs.Rows.{after_each}

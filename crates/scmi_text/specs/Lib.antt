@@ -1,11 +1,12 @@
 pub mod Fields
 pub mod Names
-pub mod PackedStep
 pub mod ScriptLine
 pub mod ScriptText
 pub mod Scripts
 pub mod Step
+pub mod StepHead
 pub mod StepLine
+pub mod StepList
 pub mod StepText
 pub mod TextLines
 pub mod Value

@@ -9,12 +9,12 @@ use Rattle.scmi_codec.specs.declared.fault.Fault.TheVariants.{HardwareError}
 use Rattle.scmi_plan.specs.declared.effect.Effect.{Effect}
 use Rattle.scmi_plan.specs.declared.effect.Effect.TheVariants.{State, Rate, Enabled}
 use Rattle.scmi_text.specs.Fields.{first_agent, first_flag, first_message, first_named_fault, payload_left}
-use Rattle.scmi_text.specs.PackedStep.{step_with}
+use Rattle.scmi_text.specs.StepHead.{step_with}
 use Rattle.scmi_text.specs.TextLines.{after_lines}
 use Rattle.scmi_text.specs.WordRow.{form_in}
 use Rattle.scmi_text.specs.declared.word_row.WordRow.{WordRow}
-use Rattle.scmi_text.specs.declared.packed_step.Head.{Head}
-use Rattle.scmi_text.specs.declared.packed_step.Head.TheVariants.{Do, Call, Raw, Malformed, Collect, P2a, Close, Platform, Advance, Fail, AdvanceFailed, Report, Restart}
+use Rattle.scmi_text.specs.declared.step_head.Head.{Head}
+use Rattle.scmi_text.specs.declared.step_head.Head.TheVariants.{Do, Call, Raw, Malformed, Collect, P2a, Close, Platform, Advance, Fail, AdvanceFailed, Report, Restart}
 use Rattle.scmi_text.specs.declared.step.Step.{Step}
 use Rattle.scmi_text.specs.declared.step_form.AgentForm.{AgentForm}
 use Rattle.scmi_text.specs.declared.step_form.AgentForm.TheVariants as form

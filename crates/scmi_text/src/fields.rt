@@ -1,15 +1,13 @@
 //! What the lines of scripts have after their first word.
-ghost use Rattle.std.specs.Prelude.{◌≡◌, ◌≤◌, ◌+◌, drop, length, map, IfOk};
+ghost use Rattle.std.specs.Prelude.{◌≡◌, map, IfOk};
 ghost use Rattle.scmi_board.specs.Items.{items_left};
-ghost use Rattle.scmi_board.specs.LineError.{Gives, GivesUnless};
-ghost use Rattle.scmi_codec.specs.declared.payload.TheConstants.{PAYLOAD_WORDS};
+ghost use Rattle.scmi_board.specs.LineError.{Gives};
 ghost use Rattle.scmi_plan.specs.Agent.{IsAgent};
 ghost use Rattle.scmi_text.specs.Fields.{first_agent, first_flag, first_message, first_named_fault, payload_left};
-ghost use Rattle.scmi_text.specs.PackedStep.{IsStartOf};
 
 use arrayvec::ArrayVec;
 use scmi_board::{Items, LineError};
-use scmi_codec::{Fault, PAYLOAD_WORDS, Payload};
+use scmi_codec::{Fault, Payload};
 
 /// The next item as the number of an agent of a board that has this many, numbered from 1. `Form`
 /// if it is not such a number.
@@ -75,27 +73,4 @@ pub fn read_payload(items: &mut Items<'_>) -> Result<Payload, LineError>
         payload.push(word);
     }
     Ok(payload)
-}
-
-/// The same, added after other words. It gives how many were added.
-pub(crate) fn read_words(items: &mut Items<'_>, words: &mut Vec<u32>) -> Result<usize, LineError>
-    ensures rest { IsStartOf words.old.items words.new.items }
-    ensures few { IfOk result (λ count. count ≤ PAYLOAD_WORDS) }
-    ensures count { IfOk result (λ count.
-        length words.old.items + count ≡ length words.new.items) }
-    ensures payload { GivesUnless (λ _. drop (length words.old.items) words.new.items) result
-        (payload_left (items_left items.old)) }
-{
-    let mut count = 0;
-    while !items.is_done() {
-        let word = items.next_word()?;
-        if count == PAYLOAD_WORDS {
-            return Err(LineError::Form);
-        }
-        let Ok(()) = words.push(word) else {
-            return Err(LineError::Memory);
-        };
-        count += 1;
-    }
-    Ok(count)
 }

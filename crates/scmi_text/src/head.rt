@@ -2,14 +2,14 @@
 ghost use Rattle.std.specs.Prelude.{◌≡◌, List, ℕ, None, Some, IfOk};
 ghost use Rattle.scmi_board.specs.Items.{items_left};
 ghost use Rattle.scmi_board.specs.LineError.{Gives};
-ghost use Rattle.scmi_text.specs.PackedStep.{step_with};
+ghost use Rattle.scmi_text.specs.StepHead.{step_with};
 ghost use Rattle.scmi_text.specs.Step.{Allows, IsStepOf, step_agent};
 ghost use Rattle.scmi_text.specs.StepText.{advance_head, agent_head, command_head, failing_head, first_head, first_refusal, head_of};
 
 use crate::fields::{read_agent, read_message, read_named_fault};
-use crate::packed_step::Head;
 use crate::report::read_report;
 use crate::step_form::{AgentForm, CommandForm, FAILED, REFUSED, STEP_FORMS, StepForm};
+use crate::step_head::Head;
 use crate::step_kinds::StepKinds;
 use crate::word_row::form_in;
 use scmi_board::{Items, LineError};

@@ -2,13 +2,13 @@
 ghost use Rattle.std.specs.Prelude.{◌≡◌, List, ℕ, None, IfOk};
 ghost use Rattle.scmi_board.specs.Items.{items_left};
 ghost use Rattle.scmi_board.specs.LineError.{Gives};
-ghost use Rattle.scmi_text.specs.PackedStep.{step_with};
+ghost use Rattle.scmi_text.specs.StepHead.{step_with};
 ghost use Rattle.scmi_text.specs.Step.{Allows, step_agent};
 ghost use Rattle.scmi_text.specs.StepText.{first_effect, report_head};
 
 use crate::fields::read_flag;
-use crate::packed_step::Head;
 use crate::step_form::{REPORT_FORMS, ReportForm};
+use crate::step_head::Head;
 use crate::step_kinds::StepKinds;
 use crate::word_row::form_in;
 use scmi_board::{Items, LineError};

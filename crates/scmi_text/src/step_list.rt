@@ -1,46 +1,43 @@
-//! The steps of a script, gathered line by line.
-ghost use Rattle.std.specs.Prelude.{◌≡◌, ◌<◌, [], get_or, length, OnOk};
-ghost use Rattle.scmi_board.specs.LineError.{GivesUnless};
-ghost use Rattle.scmi_text.specs.Step.{AddsStepOf};
-ghost use Rattle.scmi_text.specs.StepText.{with_step};
+//! The steps of a script, by its lines.
+ghost use Rattle.std.specs.Prelude.{◌≡◌, ◌<◌, get_or, length};
+ghost use Rattle.scmi_text.specs.StepList.{HaveSteps, steps_in};
 
-use crate::packed_step::{PackedStep, set_step};
 use crate::step::Step;
 use crate::step_kinds::StepKinds;
 use crate::steps::read_step;
-use scmi_board::LineError;
-use std::alloc::Global;
 use std::marker::Model;
 
-/// The steps of a script, in order. A step takes a few words and those of its payload.
+/// The steps of a script, in order. They are kept as its lines, which are read again as a step is
+/// asked for: so a step takes two words, whatever its payload. Contracts see the steps.
 #[derive(Drop)]
-pub struct StepList {
-    steps: Vec<PackedStep>,
-    // The payload words of all steps.
-    words: Vec<u32>,
+pub struct StepList<'a> {
+    lines: Vec<&'a [u8]>,
+    agents: u32,
+    kinds: StepKinds,
 }
 
-impl Model for StepList {
-    ghost use Rattle.std.specs.Prelude.{List, map};
-    ghost use Rattle.std.specs.List.{All};
-    ghost use Rattle.scmi_text.specs.PackedStep.{IsPacked, step_of};
+impl<'a> Model for StepList<'a> {
+    ghost use Rattle.std.specs.Prelude.{List};
+    ghost use Rattle.scmi_text.specs.StepList.{HaveSteps, steps_in};
     ghost use Rattle.scmi_text.specs.declared.step.Step.{Step};
 
     ghost Value = { List Step };
 
-    ghost view = { λ l. map (step_of l.words.items) l.steps.items };
+    ghost view = { λ l. steps_in l.kinds l.agents l.lines.items };
 
-    ghost invariant = { λ l. All (IsPacked l.words.items) l.steps.items };
+    ghost invariant = { λ l. HaveSteps l.kinds l.agents l.lines.items };
 }
 
-impl StepList {
-    /// No step. It takes no memory.
-    pub(crate) fn new(alloc: Global) -> StepList
-        ensures { result ≡ [] }
+impl<'a> StepList<'a> {
+    /// The steps of these lines, of a script of these kinds for a board of this many agents.
+    pub(crate) fn of(lines: Vec<&'a [u8]>, agents: u32, kinds: StepKinds) -> StepList<'a>
+        requires { HaveSteps kinds agents lines.items }
+        ensures { result ≡ steps_in kinds agents lines.entry.items }
     {
         StepList {
-            steps: Vec::new(alloc),
-            words: Vec::new(alloc),
+            lines,
+            agents,
+            kinds,
         }
     }
 
@@ -48,36 +45,17 @@ impl StepList {
     pub fn len(&self) -> usize
         ensures { result ≡ length self.now }
     {
-        self.steps.len()
+        self.lines.len()
     }
 
-    /// Makes `step` the step at an index from 0. Only the payload words that are there are copied.
+    /// Makes `step` the step at an index from 0.
     pub fn read_into(&self, index: usize, step: &mut Step)
         requires { index < length self.now }
         ensures { step.new ≡ get_or self.now index step.new }
     {
-        let packed = self.steps[index];
-        let payload = &self.words[packed.first..packed.first + packed.count];
-        set_step(step, packed.head, payload);
-    }
-
-    /// Adds the step of a line. `Form` if the line is not one of a script of these kinds of steps,
-    /// has more payload words than `PAYLOAD_WORDS`, or is of an agent that the board lacks, which
-    /// has this many. `Memory` if memory is refused.
-    pub(crate) fn add(
-        &mut self,
-        text: &[u8],
-        agents: u32,
-        kinds: StepKinds,
-    ) -> Result<(), LineError>
-        ensures adds { OnOk result (AddsStepOf kinds agents self.old self.new) }
-        ensures step { GivesUnless (λ _. self.new) result
-            (with_step kinds agents self.old text.now) }
-    {
-        let step = read_step(text, agents, kinds, &mut self.words)?;
-        let Ok(()) = self.steps.push(step) else {
-            return Err(LineError::Memory);
-        };
-        Ok(())
+        // Each line has been read before, so there is no error.
+        if let Ok(there) = read_step(self.lines[index], self.agents, self.kinds) {
+            *step = there;
+        }
     }
 }

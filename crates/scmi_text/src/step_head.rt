@@ -1,12 +1,10 @@
-//! Steps as a script keeps them: small, with their payload words in one list for all.
-ghost use Rattle.std.specs.Prelude.{◌≡◌, ◌≤◌, length};
-ghost use Rattle.scmi_codec.specs.declared.payload.TheConstants.{PAYLOAD_WORDS};
-ghost use Rattle.scmi_text.specs.PackedStep.{call_with, step_with};
+//! What comes before the payload words in the line of a step.
+ghost use Rattle.std.specs.Prelude.{◌≡◌};
+ghost use Rattle.scmi_text.specs.StepHead.{call_with, step_with};
 ghost use Rattle.scmi_text.specs.StepText.{has_payload};
-ghost use Rattle.scmi_text.specs.declared.step.Step.TheVariants.{Do};
 
 use crate::step::{AgentStep, Call, PlatformStep, Step};
-use scmi_codec::{Fault, Header, Message, payload_of, set_payload};
+use scmi_codec::{Fault, Header, Message, Payload};
 use scmi_plan::Effect;
 
 /// A step but for its payload words.
@@ -62,14 +60,6 @@ pub(crate) enum Head {
     },
 }
 
-/// A step whose payload is this many words of a list, from an index on.
-#[derive(Clone, Copy)]
-pub(crate) struct PackedStep {
-    pub head: Head,
-    pub first: usize,
-    pub count: usize,
-}
-
 /// Whether payload words belong to a step.
 pub(crate) fn has_payload(head: Head) -> bool
     ensures { result ≡ has_payload head }
@@ -80,59 +70,9 @@ pub(crate) fn has_payload(head: Head) -> bool
     )
 }
 
-/// Makes `step` the step with this head and these payload words, of which there are at most
-/// `PAYLOAD_WORDS`.
-pub(crate) fn set_step(step: &mut Step, head: Head, payload: &[u32])
-    requires { length payload.now ≤ PAYLOAD_WORDS }
-    ensures { step.new ≡ step_with head payload.now }
-{
-    // Most steps of a long script are of this kind, and of one that follows another only the words
-    // are copied.
-    match head {
-        Head::Do {
-            agent,
-            protocol,
-            message,
-        } => set_do(step, agent, protocol, message, payload),
-        _ => replace_step(step, head, payload),
-    }
-}
-
-fn set_do(step: &mut Step, agent: u32, protocol: u8, message: u8, payload: &[u32])
-    requires { length payload.now ≤ PAYLOAD_WORDS }
-    ensures { step.new ≡ Do agent (call_with protocol message payload.now) }
-{
-    match step {
-        Step::Do { agent: of, call } => {
-            *of = agent;
-            call.protocol = protocol;
-            call.message = message;
-            set_payload(&mut call.payload, payload);
-        }
-        _ => replace_step(
-            step,
-            Head::Do {
-                agent,
-                protocol,
-                message,
-            },
-            payload,
-        ),
-    }
-}
-
-// A function clears its locals at its entry, so `set_step` has no local that is a whole step.
-#[inline(never)]
-fn replace_step(step: &mut Step, head: Head, payload: &[u32])
-    requires { length payload.now ≤ PAYLOAD_WORDS }
-    ensures { step.new ≡ step_with head payload.now }
-{
-    *step = step_with(head, payload);
-}
-
-fn step_with(head: Head, payload: &[u32]) -> Step
-    requires { length payload.now ≤ PAYLOAD_WORDS }
-    ensures { result ≡ step_with head payload.now }
+/// The step with this head and these payload words.
+pub(crate) fn step_with(head: Head, payload: Payload) -> Step
+    ensures { result ≡ step_with head payload.items }
 {
     match head {
         Head::Do {
@@ -155,7 +95,7 @@ fn step_with(head: Head, payload: &[u32]) -> Step
             agent,
             step: AgentStep::Raw(Message {
                 header: Header::unpack(header),
-                payload: payload_of(payload),
+                payload,
             }),
         },
         Head::Malformed {
@@ -195,13 +135,12 @@ fn step_with(head: Head, payload: &[u32]) -> Step
     }
 }
 
-fn call_with(protocol: u8, message: u8, payload: &[u32]) -> Call
-    requires { length payload.now ≤ PAYLOAD_WORDS }
-    ensures { result ≡ call_with protocol message payload.now }
+fn call_with(protocol: u8, message: u8, payload: Payload) -> Call
+    ensures { result ≡ call_with protocol message payload.items }
 {
     Call {
         protocol,
         message,
-        payload: payload_of(payload),
+        payload,
     }
 }

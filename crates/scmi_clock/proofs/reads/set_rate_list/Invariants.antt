@@ -2,7 +2,7 @@ use Rattle.std.proofs.Common.{◌≡◌, ◌+◌, ◌-◌, ◌*◌, ◌∷◌, l
 use Rattle.std.specs.List.{flat_map}
 use Rattle.scmi_codec.specs.Rate.{rate_words}
 use Rattle.scmi_clock.specs.ClockReply.{rates_word}
-use Rattle.scmi_clock.proofs.discovery.set_rate_list.Given as goal
+use Rattle.scmi_clock.proofs.reads.set_rate_list.Given as goal
 
 abbrev pub invariant-loop-rate : goal.invariant-loop-rate
 invariant-loop-rate l = record {

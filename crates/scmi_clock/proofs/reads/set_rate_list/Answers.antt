@@ -4,7 +4,7 @@ use Rattle.std.proofs.lemmas.List.{length-take, take_more, take_more_set}
 use Rattle.std.proofs.lemmas.Grind.{flat_map-append}
 use Rattle.scmi_codec.specs.Rate.{rate_words}
 use Rattle.scmi_clock.specs.ClockReply.{rates_word}
-use Rattle.scmi_clock.proofs.discovery.set_rate_list.Goals as goal
+use Rattle.scmi_clock.proofs.reads.set_rate_list.Goals as goal
 
 -- two words that were written after others
 two_more : (words : List ℕ) (n x y : ℕ) → n + 1 < length words → take (n + 2) (set (set words n x) (n + 1) y) ≡ take n words ++ x ∷ y ∷ []

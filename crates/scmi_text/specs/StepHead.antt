@@ -1,15 +1,13 @@
--- The steps of a script as they are kept.
-use Rattle.std.specs.Prelude.{◌≡◌, ℕ, ◌+◌, ◌≤◌, List, length, take, drop}
+-- The step of what comes before its payload words, and of these.
+use Rattle.std.specs.Prelude.{ℕ, List}
 use Rattle.scmi_codec.specs.Header.{header_of}
-use Rattle.scmi_codec.specs.declared.payload.TheConstants.{PAYLOAD_WORDS}
 use Rattle.scmi_codec.specs.declared.message.Message.{Message}
 use Rattle.scmi_text.specs.declared.step.Call.{Call as CallOf}
 use Rattle.scmi_text.specs.declared.step.AgentStep.TheVariants as agent
 use Rattle.scmi_text.specs.declared.step.Step.{Step}
 use Rattle.scmi_text.specs.declared.step.Step.TheVariants as step
-use Rattle.scmi_text.specs.declared.packed_step.Head.{Head}
-use Rattle.scmi_text.specs.declared.packed_step.Head.TheVariants.{Do, Call, Raw, Malformed, Collect, P2a, Close, Platform, Advance, Fail, AdvanceFailed, Report, Restart}
-use Rattle.scmi_text.specs.declared.packed_step.PackedStep.{PackedStep}
+use Rattle.scmi_text.specs.declared.step_head.Head.{Head}
+use Rattle.scmi_text.specs.declared.step_head.Head.TheVariants.{Do, Call, Raw, Malformed, Collect, P2a, Close, Platform, Advance, Fail, AdvanceFailed, Report, Restart}
 
 -- the command of a protocol, a message id and these payload words
 abbrev pub call_with : ℕ → ℕ → List ℕ → CallOf
@@ -34,16 +32,3 @@ step_with (Fail a fault protocol id) words = step.Fail a fault (call_with protoc
 step_with (AdvanceFailed fault) words = step.AdvanceFailed fault
 step_with (Report effect) words = step.Report effect
 step_with (Restart a) words = step.Restart a
-
--- the step that is kept, where these are the words
-abbrev pub step_of : List ℕ → PackedStep → Step
-step_of words packed = step_with packed.head (take packed.count (drop packed.first words))
-
--- a step's payload is in these words, and is none that is too long
-pub record IsPacked (words : List ℕ) (packed : PackedStep) : Type 0 where
-  pub few : packed.count ≤ PAYLOAD_WORDS
-  pub within : packed.first + packed.count ≤ length words
-
--- the words are still the first of those that follow
-abbrev pub IsStartOf : List ℕ → List ℕ → Type 0
-IsStartOf old new = take (length old) new ≡ old

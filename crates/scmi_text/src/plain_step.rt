@@ -1,8 +1,8 @@
 //! Steps as a script has them, in numbers.
 
-use scmi_codec::{Fault, Payload, rate_words};
+use crate::step::{AgentStep, Call, PlatformStep, Step};
+use scmi_codec::{Fault, rate_words};
 use scmi_plan::Effect;
-use scmi_text::{AgentStep, Call, PlatformStep, Step};
 use std::fmt;
 
 /// A step. Its text is the line of a script that encodes it, without a line feed.
@@ -13,10 +13,7 @@ impl fmt::Display for PlainStep<'_> {
     fn fmt<W: fmt::Write>(&self, f: &mut fmt::Formatter<W>) -> fmt::Result {
         match self.0 {
             Step::Agent { agent, step } => write_agent_step(f, *agent, step),
-            Step::Platform { agent, step } => {
-                let word = platform_word(*step);
-                write!(f, "{word} {agent}")
-            }
+            Step::Platform { agent, step } => write!(f, "{} {agent}", word_of(*step)),
             Step::Do { agent, call } => write_call(f, "do", *agent, call),
             Step::Advance => f.write_str("advance"),
             Step::Fail { agent, fault, call } => write_refused(f, *agent, *fault, call),
@@ -24,14 +21,6 @@ impl fmt::Display for PlainStep<'_> {
             Step::Report { effect } => write_report(f, *effect),
             Step::Restart { agent } => write!(f, "restart {agent}"),
         }
-    }
-}
-
-fn platform_word(step: PlatformStep) -> &'static str {
-    match step {
-        PlatformStep::Serve => "serve",
-        PlatformStep::Flush => "flush",
-        PlatformStep::Shut => "shut",
     }
 }
 
@@ -44,15 +33,23 @@ fn write_agent_step<W: fmt::Write>(
         AgentStep::Call(call) => write_call(f, "call", agent, call),
         AgentStep::Raw(message) => {
             let header = message.header.pack();
-            write!(f, "raw {agent} 0x{header:08x}")?;
-            write_words(f, &message.payload)
+            write!(f, "raw {agent} 0x{header:x}")?;
+            write_words(f, message.payload.as_slice())
         }
         AgentStep::Malformed { length, header } => {
-            write!(f, "bad {agent} {length} 0x{header:08x}")
+            write!(f, "bad {agent} {length} 0x{:x}", *header)
         }
         AgentStep::Collect => write!(f, "collect {agent}"),
         AgentStep::P2a => write!(f, "p2a {agent}"),
         AgentStep::Close => write!(f, "close {agent}"),
+    }
+}
+
+fn word_of(step: PlatformStep) -> &'static str {
+    match step {
+        PlatformStep::Serve => "serve",
+        PlatformStep::Flush => "flush",
+        PlatformStep::Shut => "shut",
     }
 }
 
@@ -70,7 +67,7 @@ fn write_command<W: fmt::Write>(f: &mut fmt::Formatter<W>, call: &Call) -> fmt::
     let protocol = call.protocol;
     let message = call.message;
     write!(f, "0x{protocol:x} 0x{message:x}")?;
-    write_words(f, &call.payload)
+    write_words(f, call.payload.as_slice())
 }
 
 /// A command beside hardware that refuses: HARDWARE_ERROR is the status of `fail`.
@@ -104,23 +101,30 @@ fn write_advance_refused<W: fmt::Write>(f: &mut fmt::Formatter<W>, fault: Fault)
 
 fn write_report<W: fmt::Write>(f: &mut fmt::Formatter<W>, effect: Effect) -> fmt::Result {
     match effect {
-        Effect::State { domain, state } => write!(f, "report state {domain} 0x{state:x}"),
+        Effect::State { domain, state } => {
+            write!(f, "report state {domain}")?;
+            write_words(f, &[state])
+        }
         Effect::Rate { clock, rate } => {
-            let words = rate_words(rate);
-            let (low, high) = (words[0], words[1]);
-            write!(f, "report rate {clock} 0x{low:x} 0x{high:x}")
+            write!(f, "report rate {clock}")?;
+            write_words(f, &rate_words(rate))
         }
         Effect::Enabled { clock, enabled } => {
-            let on = u32::from(enabled);
-            write!(f, "report enabled {clock} {on}")
+            write!(f, "report enabled {clock}")?;
+            write_words(f, &[u32::from(enabled)])
         }
     }
 }
 
-fn write_words<W: fmt::Write>(f: &mut fmt::Formatter<W>, payload: &Payload) -> fmt::Result {
-    for word in payload.as_slice() {
+/// The payload words: digits as they are, other numbers in hexadecimal.
+fn write_words<W: fmt::Write>(f: &mut fmt::Formatter<W>, words: &[u32]) -> fmt::Result {
+    for word in words {
         let word = *word;
-        write!(f, " 0x{word:x}")?;
+        if word < 10 {
+            write!(f, " {word}")?;
+        } else {
+            write!(f, " 0x{word:x}")?;
+        }
     }
     Ok(())
 }

@@ -1,26 +1,56 @@
-//! The replies to the commands that change nothing.
-ghost use Rattle.std.specs.Prelude.{◌≡◌, ◌<◌, ◌≤◌, ◌^◌, ◌+◌, ◌*◌, ◌∷◌, [], length, false};
+//! The replies to the commands that only read, which are open to each agent.
+ghost use Rattle.std.specs.Prelude.{◌≡◌, ◌<◌, ◌≤◌, ◌^◌, ◌+◌, ◌*◌, ◌∷◌, [], length, false, true};
+ghost use Rattle.scmi_base.specs.Permission.{Permissions};
+ghost use Rattle.scmi_plan.specs.Agent.{IsAgent};
 ghost use Rattle.scmi_plan.specs.Board.{IsChannel, whole_channel};
 ghost use Rattle.scmi_plan.specs.Rates.{HasValidRates, rates_of};
 ghost use Rattle.scmi_plan.specs.Rates as supported;
 ghost use Rattle.scmi_plan.specs.declared.limits.TheConstants.{RATES};
+ghost use Rattle.scmi_plan.specs.declared.load.Load.{Load};
 ghost use Rattle.scmi_clock.specs.ClockReply.{attributes_reply, most_rates, message_reply, clock_attributes_reply, describe_reply, rate_reply, past_end, rates_words, rates_word};
-ghost use Rattle.scmi_clock.specs.ClockTable.{rate_at, enabled_at};
+ghost use Rattle.scmi_clock.specs.ClockTable.{only_reads, rate_at, enabled_at, reply_to};
 
 use crate::checks::{check_clock, check_index};
 use crate::clock_state::ClockState;
 use arrayvec::ArrayVec;
 use scmi_codec::{
-    CLOCK_PROTOCOL, CLOCK_VERSION, Payload, SUCCESS, Status, is_listed, name_words, rate_words,
-    resize, set_payload, set_refusal,
+    CLOCK_PROTOCOL, CLOCK_VERSION, ClockCommand, Payload, SUCCESS, Status, is_listed, name_words,
+    rate_words, resize, set_payload, set_refusal,
 };
 use scmi_plan::{AgentChannel, Plan, Rates};
 
 /// The flags word of a triplet: bit 12, and three rates.
 const TRIPLET: u32 = 0x1003;
 
+/// The reply to a command that only reads, of a caller.
+#[tactic(auto, unfolding(crate::specs::ClockReply::clock_reply))]
+pub(crate) fn read(
+    plan: &Plan,
+    state: &ClockState,
+    caller: u32,
+    command: ClockCommand,
+    reply: &mut Payload,
+)
+    requires caller { IsAgent (length plan.now.agents) caller }
+    requires read { only_reads command ≡ true }
+    ensures { (permissions : Permissions) → (load : Load) → reply.new.items
+        ≡ reply_to plan.now permissions state.now load caller command }
+{
+    match command {
+        ClockCommand::Version => version(reply),
+        ClockCommand::Attributes => attributes(plan, plan.channel(caller), reply),
+        ClockCommand::MessageAttributes { message } => message_attributes(message, reply),
+        ClockCommand::ClockAttributes { clock } => clock_attributes(plan, state, clock, reply),
+        ClockCommand::Describe { clock, index } => {
+            describe(plan, plan.channel(caller), clock, index, reply);
+        }
+        ClockCommand::GetRate { clock } => current_rate(plan, state, clock, reply),
+        ClockCommand::SetRate { .. } | ClockCommand::Config { .. } => {}
+    }
+}
+
 /// 0x0: the version.
-pub(crate) fn version(reply: &mut Payload)
+fn version(reply: &mut Payload)
     ensures { reply.new.items ≡ 0 ∷ 0x00010000 ∷ [] }
 {
     set_payload(reply, &[SUCCESS, CLOCK_VERSION]);
@@ -28,7 +58,7 @@ pub(crate) fn version(reply: &mut Payload)
 
 /// 0x1: the most pending sets of the caller in bits [23:16], none if the platform can't send to it
 /// (own), and the number of clocks in [15:0].
-pub(crate) fn attributes(plan: &Plan, channel: AgentChannel, reply: &mut Payload)
+fn attributes(plan: &Plan, channel: AgentChannel, reply: &mut Payload)
     requires { IsChannel channel }
     ensures { reply.new.items ≡ attributes_reply plan.now channel }
 {
@@ -37,7 +67,7 @@ pub(crate) fn attributes(plan: &Plan, channel: AgentChannel, reply: &mut Payload
 }
 
 /// 0x2: no attributes; NOT_FOUND for an id that the protocol lacks.
-pub(crate) fn message_attributes(message: u32, reply: &mut Payload)
+fn message_attributes(message: u32, reply: &mut Payload)
     ensures { reply.new.items ≡ message_reply message }
 {
     if is_listed(CLOCK_PROTOCOL, message) {
@@ -48,7 +78,7 @@ pub(crate) fn message_attributes(message: u32, reply: &mut Payload)
 }
 
 /// 0x3: in bit 0 whether the clock is enabled, and its name.
-pub(crate) fn clock_attributes(plan: &Plan, state: &ClockState, clock: u32, reply: &mut Payload)
+fn clock_attributes(plan: &Plan, state: &ClockState, clock: u32, reply: &mut Payload)
     ensures { reply.new.items ≡ clock_attributes_reply plan.now (enabled_at state.now clock) clock }
 {
     if let Err(status) = check_clock(plan, clock) {
@@ -64,13 +94,7 @@ pub(crate) fn clock_attributes(plan: &Plan, state: &ClockState, clock: u32, repl
 
 /// 0x4: the rates of a list from an index on, as many as the channel has room for, or a triplet
 /// whatever the index (own).
-pub(crate) fn describe(
-    plan: &Plan,
-    channel: AgentChannel,
-    clock: u32,
-    index: u32,
-    reply: &mut Payload,
-)
+fn describe(plan: &Plan, channel: AgentChannel, clock: u32, index: u32, reply: &mut Payload)
     requires { IsChannel channel }
     ensures { reply.new.items ≡ describe_reply plan.now channel clock index }
 {
@@ -87,7 +111,7 @@ pub(crate) fn describe(
 }
 
 /// 0x6: the rate.
-pub(crate) fn current_rate(plan: &Plan, state: &ClockState, clock: u32, reply: &mut Payload)
+fn current_rate(plan: &Plan, state: &ClockState, clock: u32, reply: &mut Payload)
     ensures { reply.new.items ≡ rate_reply plan.now (rate_at state.now clock) clock }
 {
     if let Err(status) = check_clock(plan, clock) {
