@@ -174,7 +174,9 @@ uint32_t scmi_platform_new_recorded(scmi_platform *SCMI_ALONE platform, const ui
 
 /*
  * The board's vendor and sub-vendor, the version of its firmware, and the number of its trusted agent. A board may lack
- * power domains (0x11) or clocks (0x14), and have protocols of its firmware.
+ * power domains (0x11) or clocks (0x14), and have protocols of its firmware. On a board that is loose a name, of the
+ * vendors too, may be empty and have spaces: up to 15 bytes, each 0x20 to 0x7e. A clock may start at a rate that is
+ * none of its own.
  */
 typedef struct scmi_board_heading {
     char vendor[SCMI_NAME_ROOM];
@@ -182,6 +184,7 @@ typedef struct scmi_board_heading {
     uint32_t version;
     uint32_t trusted;
     uint8_t protocols[16]; /* the ids besides the base protocol, which rise, then zeros; all 0: 0x11 and 0x14 */
+    uint32_t loose;        /* not 0: names may be empty and have spaces, and a clock may start at any rate */
 } scmi_board_heading;
 
 /*
@@ -311,9 +314,9 @@ uint32_t scmi_answer(scmi_platform *SCMI_ALONE platform, uint32_t agent, uint8_t
  * SCMI_NO_FRAME (the channel is free) or SCMI_NO_AGENT.
  *
  * If a program commits exactly what its hardware made, fails or refuses exactly what it refused, and calls
- * scmi_advance, scmi_fail_advance and scmi_refuse_advance in the same way, then its hardware has made exactly the
- * changes of the platform's history but those that it reported by itself (scmi_domain_is, scmi_clock_is and
- * scmi_commit_rate), in order, each once, and refused exactly those that failed.
+ * scmi_advance, scmi_fail_advance, scmi_refuse_advance and the two that end a set at a place in the same way, then its
+ * hardware has made exactly the changes of the platform's history but those that it reported by itself
+ * (scmi_domain_is, scmi_clock_is and scmi_commit_rate), in order, each once, and refused exactly those that failed.
  */
 uint32_t scmi_ask(scmi_platform *SCMI_ALONE platform, uint32_t agent, uint8_t area[SCMI_ALONE SCMI_AREA_BYTES],
                   scmi_effect *SCMI_ALONE effect);
@@ -430,7 +433,8 @@ uint32_t scmi_advance(scmi_platform *platform);
 /*
  * Gives what the completion of the first pending set is to change of the hardware; the platform stays as it was.
  * SCMI_DONE, SCMI_NO_PLATFORM or SCMI_NOTHING (none is pending). Nothing is kept of it: the first set stays the
- * first, whatever commands are answered, until scmi_advance, scmi_fail_advance or scmi_refuse_advance takes it off.
+ * first, whatever commands are answered, until scmi_advance, scmi_fail_advance or scmi_refuse_advance takes it off;
+ * scmi_advance_at and scmi_fail_advance_at may end another before it.
  */
 uint32_t scmi_ask_advance(scmi_platform *SCMI_ALONE platform, scmi_effect *SCMI_ALONE effect);
 
@@ -443,6 +447,16 @@ uint32_t scmi_fail_advance(scmi_platform *platform);
 
 /* The same by a status, as scmi_refuse takes it: the delayed response is this. SCMI_WRONG_STATUS comes last. */
 uint32_t scmi_refuse_advance(scmi_platform *platform, int32_t status);
+
+/*
+ * Completes the pending set at a place before the others, which stay in order: the hardware finished it first. Places
+ * are those of scmi_pending, counted from 0. It counts as two events: the set goes before the others, and completes.
+ * SCMI_DONE, SCMI_NO_PLATFORM, SCMI_ASKED or SCMI_NOTHING (no set is pending at that place).
+ */
+uint32_t scmi_advance_at(scmi_platform *platform, uint32_t place);
+
+/* The same of a set whose change the hardware refused, which ends as by scmi_fail_advance. */
+uint32_t scmi_fail_advance_at(scmi_platform *platform, uint32_t place);
 
 /*
  * Writes the first message of an agent's outbox (a delayed response or a notification) into an area, with
@@ -532,7 +546,8 @@ SCMI_HOLDS(offsetof(scmi_area, header) == SCMI_AREA_HEADER, "the place of the he
 SCMI_HOLDS(offsetof(scmi_area, payload) == SCMI_AREA_PAYLOAD, "the place of the payload");
 SCMI_HOLDS(sizeof(scmi_platform) == sizeof(void *), "the size of a handle");
 SCMI_HOLDS(sizeof(scmi_channel_numbers) == 8, "the size of a channel's numbers");
-SCMI_HOLDS(sizeof(scmi_board_heading) == 56, "the size of a heading");
+SCMI_HOLDS(sizeof(scmi_board_heading) == 60, "the size of a heading");
+SCMI_HOLDS(offsetof(scmi_board_heading, loose) == 56, "the place of what is loose");
 SCMI_HOLDS(sizeof(scmi_board_agent) == 40, "the size of an agent's row");
 SCMI_HOLDS(offsetof(scmi_board_agent, denied_clocks) == 36, "the place of an agent's last mask");
 SCMI_HOLDS(sizeof(scmi_board_domain) == 40, "the size of a domain's row");

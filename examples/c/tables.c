@@ -149,6 +149,22 @@ static void invalid(void)
     fill(1, 2, 3), board.heading.trusted = 2, is("agent 2 of 1 trusted", SCMI_RULE + 5);
 }
 
+/* A board that says that it is loose. */
+static void fill_loose(uint32_t list)
+{
+    fill(1, 2, list);
+    board.heading.loose = 1;
+}
+
+static void loose(void)
+{
+    fill_loose(3), memset(board.heading.sub_vendor, 0, 16), is("loose, a name of no byte", SCMI_DONE);
+    fill_loose(3), domains[1].name[0] = ' ', is("a name with a space", SCMI_DONE);
+    fill_loose(3), domains[1].name[0] = 0x7f, is("a name with a byte that has no sign", SCMI_RULE + 2);
+    fill_loose(0), clocks[0].rate = 2, is("a start beside the steps", SCMI_DONE);
+    fill_loose(3), rates[1] = rates[0], is("rates that do not rise", SCMI_RULE + 3);
+}
+
 /* What an agent's channels are. */
 static void channel(const char *says, uint32_t bytes, uint32_t one_way)
 {
@@ -296,6 +312,7 @@ int main(void)
         return printf("scmi.h is not the library's\n"), 1;
     malformed();
     invalid();
+    loose();
     channel("whole", 0, 0);
     channel("whole and one-way", 0, 7);
     channel("the smallest", 60, 0);

@@ -123,7 +123,7 @@ def load(file=None):
             ("scmi_commit_rate_in", *area, number, number), ("scmi_fail_in", *area),
             ("scmi_refuse_in", *area, ctypes.c_int32), ("scmi_set_aside",), ("scmi_take_up", number),
             ("scmi_advance",), ("scmi_ask_advance", effect), ("scmi_fail_advance",),
-            ("scmi_refuse_advance", ctypes.c_int32),
+            ("scmi_refuse_advance", ctypes.c_int32), ("scmi_advance_at", number), ("scmi_fail_advance_at", number),
             ("scmi_next_in", number, *area), ("scmi_sent", number), ("scmi_restart", number),
             ("scmi_domain_is", number, number), ("scmi_clock_is", number, number, number, number),
             ("scmi_channel", number, ctypes.POINTER(_Channel)), ("scmi_domain_state", number, word),
@@ -259,6 +259,12 @@ class Platform:
 
     def refuse_advance(self, status):
         return self._give(self._library.scmi_refuse_advance(self._handle, -STATUSES.index(status)))
+
+    def advance_at(self, place):
+        return self._give(self._library.scmi_advance_at(self._handle, place))
+
+    def fail_advance_at(self, place):
+        return self._give(self._library.scmi_fail_advance_at(self._handle, place))
 
     def next(self, agent, area):
         return self._over(self._library.scmi_next_in, area, agent)

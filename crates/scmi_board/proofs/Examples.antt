@@ -97,6 +97,7 @@ small =
       absent = nothing_held;
       free = 0;
       protocols = own_protocols;
+      loose = false;
     }
   where
     clock : List ℕ → Clock

@@ -168,7 +168,7 @@ bare_board view = do
   version ← first_number 32 sub_vendor.1
   trusted ← first_number 32 version.1
   end ← no_item trusted.1
-  Some (record { vendor = vendor.0; sub_vendor = sub_vendor.0; version = version.0; trusted = trusted.0; agents = []; domains = []; clocks = []; devices = []; channels = replicate AGENTS whole_channel; kept = nothing_held; denied = nothing_denied; absent = nothing_held; free = 0; protocols = own_protocols })
+  Some (record { vendor = vendor.0; sub_vendor = sub_vendor.0; version = version.0; trusted = trusted.0; agents = []; domains = []; clocks = []; devices = []; channels = replicate AGENTS whole_channel; kept = nothing_held; denied = nothing_denied; absent = nothing_held; free = 0; protocols = own_protocols; loose = false })
 
 -- board VENDOR SUBVENDOR VERSION TRUSTED; none where the line is no heading
 unfoldable pub heading_of : List ℕ → Option Board

@@ -1,23 +1,28 @@
 -- What is said of the hardware, and what belongs to a history.
-use Rattle.std.proofs.Common.{◌≡◌, ◌≢◌, ◌↔◌, ℕ, List, [], ◌∷◌, ◌++◌, Option, Some, None, option_map, slice_get, sym, subst, ap, refl, ◌∙◌}
+use Rattle.std.proofs.Common.{◌≡◌, ◌≢◌, ◌↔◌, ◌⊎◌, inl, inr, ℕ, Bool, true, false, Result, Ok, Err, IfErr, List, [], ◌∷◌, ◌++◌, Option, Some, None, option_map, slice_get, sym, subst, ap, refl, ◌∙◌}
 use Rattle.std.specs.Option.{option_or, option_to_list}
+use Rattle.std.specs.Result.{is_ok}
+use Rattle.std.proofs.lemmas.Bool.{cases_Bool}
 use Rattle.scmi_codec.specs.declared.frame.Frame.{Frame}
 use Rattle.scmi_plan.specs.Board.{Board}
 use Rattle.scmi_core.specs.Asked.{Asked, Made, Refused, and_asked}
 use Rattle.scmi_core.specs.Driven.{ask_after, asks, asks_from}
 use Rattle.scmi_core.specs.Effect.{effect_after, effect_of, setting_effect}
 use Rattle.scmi_core.specs.Standing.{Standing, StandsAfter}
-use Rattle.scmi_core.specs.History.{deeds}
+use Rattle.scmi_core.specs.History.{HasPendingAt, IsIdle, deeds}
 use Rattle.scmi_core.specs.Pending.{pending_sets}
 use Rattle.scmi_core.specs.Value.{completion, set_to_change}
 use Rattle.scmi_plan.specs.declared.effect.Effect.{Effect}
 use Rattle.scmi_core.specs.declared.event.Event.{Event}
-use Rattle.scmi_core.specs.declared.event.Event.TheVariants.{Command as Called, Advance, Sent, CommandFailed, AdvanceFailed, Restarted, Reported}
+use Rattle.scmi_core.specs.declared.event.Event.TheVariants.{Command as Called, Advance, Sent, CommandFailed, AdvanceFailed, Restarted, Promoted, Reported}
 use Rattle.scmi_codec.specs.declared.fault.Fault.{Fault}
 use Rattle.scmi_core.specs.declared.pending_set.PendingSet.{PendingSet}
 use Rattle.scmi_core.specs.declared.pending_set.Setting.{Setting}
 use Rattle.scmi_core.specs.declared.pending_set.Setting.TheVariants as setting
 use Rattle.scmi_core.proofs.EffectsMade.{asks-push}
+use Rattle.scmi_core.proofs.Ties.{promoted-waits}
+use Rattle.scmi_c.specs.declared.refusal.Refusal.{Refusal}
+use Rattle.scmi_c.specs.declared.refusal.Refusal.TheVariants.{Nothing, WrongStatus}
 use Rattle.scmi_c.specs.Calls.{HasHappened}
 use Rattle.scmi_c.specs.Driven.{Drives, IsDriven, IsUnsaid, failure_after, failures, failures_from, refused_of}
 use Rattle.scmi_core.specs.Said.{next_effect}
@@ -42,12 +47,35 @@ pub starts : (p : Held) → StandsAt p [] → p.said ≡ [] → IsDriven p []
 unfolding asks
 starts p at said = (at, said)
 
--- nothing belongs to a posting, to a restart and to a report
+-- nothing belongs to a posting, to a restart, to a promotion and to a report
 pub drives_sent : (p k : Held) (agent : ℕ) → HasHappened p k (Sent agent) → k.said ≡ p.said → Drives p k (Sent agent)
 drives_sent p k agent happened said = drives p k (Sent agent) happened (λ h at. said)
 
 pub drives_restarted : (p k : Held) (agent : ℕ) → HasHappened p k (Restarted agent) → k.said ≡ p.said → Drives p k (Restarted agent)
 drives_restarted p k agent happened said = drives p k (Restarted agent) happened (λ h at. said)
+
+pub drives_promoted : (p k : Held) (place : ℕ) → HasHappened p k (Promoted place) → k.said ≡ p.said → Drives p k (Promoted place)
+drives_promoted p k place happened said = drives p k (Promoted place) happened (λ h at. said)
+
+-- after which a set is pending
+pub promoted-idle : (p k : Held) (place : ℕ) → HasHappened p k (Promoted place) → (h : List Event) → StandsAt p h → HasPendingAt (board_of p) h place
+    → ¬ (IsIdle (board_of k) (h ++ Promoted place ∷ []))
+promoted-idle p k place happened h at within = λ idle.
+    promoted-waits (board_of p) h place at.0.legal within (subst (λ (board : Board). IsIdle board (h ++ Promoted place ∷ [])) happened.board idle)
+
+-- so that a call which ends a set, unless none is pending, ends one
+pub ends : (p k : Held) (place : ℕ) → HasHappened p k (Promoted place) → (h : List Event) → StandsAt p h → HasPendingAt (board_of p) h place
+    → (done : Bool) → ((h' : List Event) → StandsAt k h' → (done ≡ false) → IsIdle (board_of k) h') → done ≡ true
+ends p k place happened h at within done waiting = by (cases_Bool done) where
+  by : (done ≡ true) ⊎ (done ≡ false) → done ≡ true
+  by (inl did) = did
+  by (inr not) = absurd (promoted-idle p k place happened h at within (waiting (h ++ Promoted place ∷ []) (happened.after h at) not))
+
+-- with a fault nothing else is refused
+pub only-nothing : (r : Result (Unit {0}) Refusal) (fault : Fault) → is_ok r ≡ false → IfErr r (λ e. (e ≡ Nothing) ⊎ ((e ≡ WrongStatus) × (Some fault ≡ None))) → r ≡ Err Nothing
+only-nothing (Ok done) fault not errors = absurd (let both : true ≡ false = not in cc)
+only-nothing (Err e) fault not (inl is) = ap (λ (refusal : Refusal). Err refusal) is
+only-nothing (Err e) fault not (inr is) = absurd (let none : Some fault ≡ None = is.1 in cc)
 
 pub drives_reported : (p k : Held) (effect : Effect) → HasHappened p k (Reported effect) → k.said ≡ p.said → Drives p k (Reported effect)
 drives_reported p k effect happened said = drives p k (Reported effect) happened (λ h at. said)
@@ -135,6 +163,7 @@ refused_after board h (Sent a) = refl
 refused_after board h (CommandFailed a frame fault) = refused fault (effect_after board h (Called a frame))
 refused_after board h (AdvanceFailed fault) = refused fault (effect_after board h Advance)
 refused_after board h (Restarted a) = refl
+refused_after board h (Promoted place) = refl
 refused_after board h (Reported effect) = refl
 
 refused_from : (board : Board) (before h : List Event) → refused_of (asks_from board before h) ≡ failures_from board before h

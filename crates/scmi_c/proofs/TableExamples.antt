@@ -22,6 +22,7 @@ heading =
       version = 0x10000;
       trusted = 1;
       protocols = name (0x11 ∷ 0x14 ∷ 0x80 ∷ []);
+      loose = 0;
     }
 
 abbrev ap : AgentRow
@@ -69,6 +70,7 @@ of-phone : board_of_tables (phone (100 ∷ 200 ∷ 400 ∷ [])) ≡ Ok (record {
   absent = record { domains = 0; clocks = 1 };
   free = 2;
   protocols = 0x11 ∷ 0x14 ∷ 0x80 ∷ [];
+  loose = false;
 })
 of-phone = refl
 
@@ -84,6 +86,35 @@ no-ids = refl
 
 no-order : board_of_tables (of-ids (0x14 ∷ 0x11 ∷ [])) ≡ Err TABLE
 no-order = refl
+
+-- names with a space and without a byte, of the vendor, an agent and a domain, and a clock that starts between two
+-- of its rates, on a board that is loose or not
+abbrev spaced : ℕ → BoardTables
+spaced loose =
+    tables_given (record heading { vendor = name (codes "A B"); sub_vendor = name []; loose = loose })
+    (record ap { name = name (codes " ap") } ∷ []) (record cpu { name = name [] } ∷ []) [] [] []
+
+loose-names : IfOk (board_of_tables (spaced 1)) (λ board. board.vendor ≡ codes "A B")
+loose-names = refl
+
+no-loose-names : board_of_tables (spaced 0) ≡ Err (RULE + 2)
+no-loose-names = refl
+
+abbrev between : ℕ → BoardTables
+between loose = tables_given (record heading { loose = loose }) (ap ∷ []) [] (record uart { rate = 300 } ∷ []) (100 ∷ 200 ∷ 400 ∷ []) []
+
+loose-start : IfOk (board_of_tables (between 1)) (λ board. board.loose ≡ true)
+loose-start = refl
+
+no-loose-start : board_of_tables (between 0) ≡ Err (RULE + 3)
+no-loose-start = refl
+
+-- no more than a name of 15 bytes, each printable or a space
+of-sixteen : board_of_tables (tables_given (record heading { vendor = replicate 16 0x41; loose = 1 }) (ap ∷ []) [] [] [] []) ≡ Err TABLE
+of-sixteen = refl
+
+no-tab : board_of_tables (tables_given (record heading { vendor = name (9 ∷ []); loose = 1 }) (ap ∷ []) [] [] [] []) ≡ Err (RULE + 2)
+no-tab = refl
 
 -- a table that ends before the list does
 short-table : board_of_tables (phone (100 ∷ 200 ∷ [])) ≡ Err TABLE

@@ -9,8 +9,7 @@ use Rattle.std.proofs.lemmas.List.{get_or_default, length-take-le}
 use Rattle.std.proofs.lemmas.List.Elements.{All-map, All-take}
 use Rattle.std.proofs.lemmas.List.Sums.{AllPass-from_list_all, fold-append}
 use Rattle.std.proofs.lemmas.Str.{IsUtf8-from_ascii}
-use Rattle.scmi_codec.specs.Name.{IsName}
-use Rattle.scmi_plan.specs.Board.{Board}
+use Rattle.scmi_plan.specs.Board.{Board, IsNameOf}
 use Rattle.scmi_plan.specs.BoardRows.{HasNames}
 use Rattle.scmi_plan.specs.PlanError.{first_fault, has_valid_counts}
 use Rattle.scmi_plan.specs.declared.plan_error.PlanError.{PlanError}
@@ -63,25 +62,29 @@ pub agents_named : (t : BoardTables) → is_well_formed t ≡ true → All (λ r
 agents_named t is = λ k d small.
     (and_parts (is_named (get_or t.agents k d).name) (is_said_row (length t.devices) (get_or t.agents k d)) (agents_formed t is k d small)).0
 
+-- whether the board of tables may have the name of a row
+abbrev IsNamedIn : BoardTables → List ℕ → Type 0
+IsNamedIn t name = IsNameOf (board_in t) (name_in name)
+
 -- the names of tables whose names are valid, and not, are those of their board
-pub rows_named : (t : BoardTables) → IsName (name_in t.heading.vendor) → IsName (name_in t.heading.sub_vendor) → All (λ row. IsName (name_in row.name)) t.agents
-    → All (λ row. IsName (name_in row.name)) t.domains → All (λ row. IsName (name_in row.name)) t.clocks → HasNames (board_in t)
+pub rows_named : (t : BoardTables) → IsNamedIn t t.heading.vendor → IsNamedIn t t.heading.sub_vendor → All (λ row. IsNamedIn t row.name) t.agents
+    → All (λ row. IsNamedIn t row.name) t.domains → All (λ row. IsNamedIn t row.name) t.clocks → HasNames (board_in t)
 rows_named t vendor sub_vendor agents domains clocks = record {
   vendor = vendor;
   sub_vendor = sub_vendor;
-  agents = All-map IsName (λ row. name_in row.name) t.agents agents;
-  domains = All-map (λ domain. IsName domain.name) domain_in t.domains domains;
-  clocks = All-map (λ clock. IsName clock.name) (clock_in t.rates) t.clocks clocks;
+  agents = All-map (λ agent. IsNameOf (board_in t) agent) (λ row. name_in row.name) t.agents agents;
+  domains = All-map (λ domain. IsNameOf (board_in t) domain.name) domain_in t.domains domains;
+  clocks = All-map (λ clock. IsNameOf (board_in t) clock.name) (clock_in t.rates) t.clocks clocks;
 }
 
-pub agents_unnamed : (t : BoardTables) → ¬ (All (λ row. IsName (name_in row.name)) t.agents) → ¬ (HasNames (board_in t))
-agents_unnamed t h = λ names. h (All-of_map IsName (λ row. name_in row.name) t.agents names.agents)
+pub agents_unnamed : (t : BoardTables) → ¬ (All (λ row. IsNamedIn t row.name) t.agents) → ¬ (HasNames (board_in t))
+agents_unnamed t h = λ names. h (All-of_map (λ agent. IsNameOf (board_in t) agent) (λ row. name_in row.name) t.agents names.agents)
 
-pub domains_unnamed : (t : BoardTables) → ¬ (All (λ row. IsName (name_in row.name)) t.domains) → ¬ (HasNames (board_in t))
-domains_unnamed t h = λ names. h (All-of_map (λ domain. IsName domain.name) domain_in t.domains names.domains)
+pub domains_unnamed : (t : BoardTables) → ¬ (All (λ row. IsNamedIn t row.name) t.domains) → ¬ (HasNames (board_in t))
+domains_unnamed t h = λ names. h (All-of_map (λ domain. IsNameOf (board_in t) domain.name) domain_in t.domains names.domains)
 
-pub clocks_unnamed : (t : BoardTables) → ¬ (All (λ row. IsName (name_in row.name)) t.clocks) → ¬ (HasNames (board_in t))
-clocks_unnamed t h = λ names. h (All-of_map (λ clock. IsName clock.name) (clock_in t.rates) t.clocks names.clocks)
+pub clocks_unnamed : (t : BoardTables) → ¬ (All (λ row. IsNamedIn t row.name) t.clocks) → ¬ (HasNames (board_in t))
+clocks_unnamed t h = λ names. h (All-of_map (λ clock. IsNameOf (board_in t) clock.name) (clock_in t.rates) t.clocks names.clocks)
 
 -- an error that a name gave is the first rule that the board breaks
 pub row_fault : (t : BoardTables) (e : PlanError) → has_valid_counts (board_in t) ≡ true

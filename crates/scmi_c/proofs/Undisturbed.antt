@@ -36,7 +36,7 @@ use Rattle.scmi_clock.specs.ClockTable.{enabled_now, rate_later, rate_now, set_r
 use Rattle.scmi_clock.specs.SetFlags.{is_asynchronous, is_response_wanted}
 use Rattle.scmi_clock.proofs.ClockLaws.{clock_laws, for_changes}
 use Rattle.scmi_core.specs.declared.event.Event.{Event}
-use Rattle.scmi_core.specs.declared.event.Event.TheVariants.{Advance, AdvanceFailed, Command as Called, CommandFailed, Reported, Sent}
+use Rattle.scmi_core.specs.declared.event.Event.TheVariants.{Advance, AdvanceFailed, Command as Called, CommandFailed, Promoted, Reported, Sent}
 use Rattle.scmi_core.specs.declared.pending_set.PendingSet.{PendingSet}
 use Rattle.scmi_core.specs.declared.pending_set.Setting.{Setting}
 use Rattle.scmi_core.specs.declared.pending_set.Setting.TheVariants as setting
@@ -45,7 +45,7 @@ use Rattle.scmi_core.specs.Effect.{effect_after, effect_in, effect_of, effect_re
 use Rattle.scmi_core.specs.History.{deed_after, deeds}
 use Rattle.scmi_core.specs.Legal.{IsLegal}
 use Rattle.scmi_core.specs.Outbox.{situation_after}
-use Rattle.scmi_core.specs.Pending.{acceptance, has_set_of, is_set_by, rate_set, state_set}
+use Rattle.scmi_core.specs.Pending.{acceptance, has_set_of, is_set_by, promoted, rate_set, state_set}
 use Rattle.scmi_core.specs.Permissions.{permission_in}
 use Rattle.scmi_core.specs.ReadCommand.{command_on, lacks_protocol}
 use Rattle.scmi_core.specs.Reply.{fits_channel, reply_words, words_given}
@@ -55,6 +55,7 @@ use Rattle.scmi_core.proofs.Commits.{config-set, effect-fits, effect_by, rate-se
 use Rattle.scmi_core.proofs.Deeds.{added_success}
 use Rattle.scmi_core.proofs.Following.{next, pending_next, situation-next}
 use Rattle.scmi_core.proofs.Legal.{advances_le-accepted, deeds-push, sent_le-made}
+use Rattle.scmi_core.proofs.Promotions.{promoted-any}
 use Rattle.scmi_c.specs.Aside.{disturbs, is_change_of, is_permission, set_of}
 use Rattle.scmi_c.specs.Effect.{numbers_of}
 
@@ -270,6 +271,12 @@ quiet-sent board h r a = record { permits = λ b d scope. refl; leaves = λ pend
 
 pub quiet-reported : (board : Board) (h : List Event) (r : Resource) (e : Effect) → IsQuiet board r (deed_after board (deeds board h) (Reported e))
 quiet-reported board h r e = record { permits = λ b d scope. refl; leaves = λ pending none. with-more r pending [] refl none }
+
+pub quiet-promoted : (board : Board) (h : List Event) (r : Resource) (place : ℕ) → IsQuiet board r (deed_after board (deeds board h) (Promoted place))
+quiet-promoted board h r place = record {
+  permits = λ b d scope. refl;
+  leaves = λ pending none. with-more r (promoted place pending) [] refl (promoted-any (λ p. is_set_by r p.setting) place pending ∙ none);
+}
 
 pub quiet-advance : (board : Board) (h : List Event) (r : Resource) → IsQuiet board r (deed_after board (deeds board h) Advance)
 quiet-advance board h r = record { permits = λ b d scope. refl; leaves = without-first r }

@@ -132,8 +132,8 @@ clock_in table row = record { name = name_in row.name; enabled = is_set row.enab
 abbrev pub device_in : DeviceRow → Device
 device_in row = record { domains = row.domains; clocks = row.clocks }
 
--- the board of well-formed tables, with whole channels, of which nothing is kept or denied, all is
--- there, no clock is free, and the protocols are those of power domains and clocks
+-- the board of well-formed tables, loose if their heading says so, with whole channels, of which nothing is kept or
+-- denied, all is there, no clock is free, and the protocols are those of power domains and clocks
 abbrev pub board_in : BoardTables → Board
 board_in t =
     record {
@@ -151,6 +151,7 @@ board_in t =
       absent = nothing_held;
       free = 0;
       protocols = own_protocols;
+      loose = is_set t.heading.loose;
     }
 
 -- how many of the pending sets may be an agent's, all of them if its row says none

@@ -25,6 +25,7 @@ mod commit_words;
 mod desk;
 mod effect;
 mod ends;
+mod ends_at;
 mod fault;
 mod handle;
 mod held;

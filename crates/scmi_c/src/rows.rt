@@ -1,7 +1,9 @@
 //! The rows of a board's tables, as a program in C writes them.
 
 /// The heading of a board. A name is its bytes up to the first zero, and so are the ids of its
-/// protocols besides the base protocol; without any they are those of power domains and clocks.
+/// protocols besides the base protocol; without any they are those of power domains and clocks. If
+/// `loose` is not 0, a name may be empty and have blanks, and a clock may start at a rate that is
+/// none of its own.
 #[repr(C)]
 #[derive(Clone, Copy)]
 pub struct HeadingRow {
@@ -10,6 +12,7 @@ pub struct HeadingRow {
     pub version: u32,
     pub trusted: u32,
     pub protocols: [u8; 16],
+    pub loose: u32,
 }
 
 /// An agent: its name, the bytes of its channels' areas, 0 if they are whole, whether the platform
@@ -71,7 +74,7 @@ pub struct DeviceRow {
 }
 
 // The sizes that `include/scmi.h` has.
-const _: () = prove!(size_of::<HeadingRow>() == 56);
+const _: () = prove!(size_of::<HeadingRow>() == 60);
 
 const _: () = prove!(size_of::<AgentRow>() == 40);
 

@@ -1,7 +1,7 @@
 //! The plan of tables that are well formed.
-ghost use Rattle.std.specs.Prelude.{◌≡◌, ◌≢◌, ◌≤◌, [], IfOk, IfErr, OnOk, None, Some, length, map, true, vec_capacity, vec_len};
+ghost use Rattle.std.specs.Prelude.{◌≡◌, ◌≢◌, ◌≤◌, ◌↔◌, [], IfOk, IfErr, IfSome, IsSome, OnOk, None, Some, length, map, true, vec_capacity, vec_len};
 ghost use Rattle.std.specs.List.{All, position, position_or_len};
-ghost use Rattle.scmi_codec.specs.Name.{IsName};
+ghost use Rattle.scmi_plan.specs.Board.{IsNameIf};
 ghost use Rattle.scmi_plan.specs.PlanError.{first_fault, has_valid_counts};
 ghost use Rattle.scmi_plan.specs.Rates.{rates_of};
 ghost use Rattle.scmi_plan.specs.declared.plan_error.PlanError.TheVariants as error;
@@ -39,16 +39,17 @@ fn board_rows(alloc: Global, tables: &Tables<'_>) -> Result<BoardRows, PlanError
         return Err(PlanError::Count);
     }
     let heading = tables.heading;
-    let vendor = name_of(&heading.vendor)?;
-    let sub_vendor = name_of(&heading.sub_vendor)?;
+    let loose = heading.loose != 0;
+    let vendor = name_of(&heading.vendor, loose)?;
+    let sub_vendor = name_of(&heading.sub_vendor, loose)?;
     // All are there before a row is added, so that each error drops them at one place.
     let mut agents = Vec::with_capacity(alloc, tables.agents.len())?;
     let mut domains = Vec::with_capacity(alloc, tables.domains.len())?;
     let mut clocks = Vec::with_capacity(alloc, tables.clocks.len())?;
     let mut devices = Vec::with_capacity(alloc, tables.devices.len())?;
-    add_agents(&mut agents, tables.agents)?;
-    add_domains(&mut domains, tables.domains)?;
-    add_clocks(alloc, &mut clocks, tables.clocks, tables.rates)?;
+    add_agents(&mut agents, tables.agents, loose)?;
+    add_domains(&mut domains, tables.domains, loose)?;
+    add_clocks(alloc, &mut clocks, tables.clocks, tables.rates, loose)?;
     add_devices(&mut devices, tables.devices);
     Ok(BoardRows {
         vendor,
@@ -59,6 +60,7 @@ fn board_rows(alloc: Global, tables: &Tables<'_>) -> Result<BoardRows, PlanError
         domains,
         clocks,
         devices,
+        loose,
     })
 }
 
@@ -73,17 +75,30 @@ fn has_valid_counts(tables: &Tables<'_>) -> bool
     )
 }
 
-/// A name, up to its zero; `Name` if a board may not have it.
-fn name_of(name: &[u8]) -> Result<Name, PlanError>
+/// A name, up to its zero; `Name` if a board that is loose or not may not have it.
+fn name_of(name: &[u8], loose: bool) -> Result<Name, PlanError>
     requires named { is_named name.now ≡ true }
     ensures name { IfOk result (λ n. n ≡ name_in name.now) }
-    ensures valid { OnOk result (IsName (name_in name.now)) }
-    ensures fault { IfErr result (λ e. (e ≡ error.Name) × (¬ (IsName (name_in name.now)))) }
+    ensures valid { OnOk result (IsNameIf loose (name_in name.now)) }
+    ensures fault { IfErr result (λ e. (e ≡ error.Name)
+        × (¬ (IsNameIf loose (name_in name.now)))) }
 {
     let text = unsafe { from_utf8_unchecked(&name[..name_length(name)]) };
-    match Name::new(text) {
+    match named(text, loose) {
         Some(name) => Ok(name),
         None => Err(PlanError::Name),
+    }
+}
+
+/// The name of a text; `None` if a board that is loose or not may not have it.
+fn named(text: &str, loose: bool) -> Option<Name>
+    ensures name { IfSome result (λ name. name ≡ text.now) }
+    ensures variant { IsSome result ↔ IsNameIf loose text.now }
+{
+    if loose {
+        Name::loose(text)
+    } else {
+        Name::new(text)
     }
 }
 
@@ -102,34 +117,34 @@ fn zero_place(name: &[u8]) -> Option<usize>
 }
 
 /// Adds agents to none, for all of which there is room.
-fn add_agents(agents: &mut Vec<Name>, rows: &[AgentRow]) -> Result<(), PlanError>
+fn add_agents(agents: &mut Vec<Name>, rows: &[AgentRow], loose: bool) -> Result<(), PlanError>
     requires rows { All (λ row. is_named row.name ≡ true) rows.now }
     requires none { (agents.old.items ≡ []) × (vec_len agents.old ≡ 0) }
     requires room { length rows.now ≤ vec_capacity agents.old }
     ensures agents { OnOk result (agents.new.items ≡ map (λ row. name_in row.name) rows.now) }
-    ensures valid { OnOk result (All (λ row. IsName (name_in row.name)) rows.now) }
+    ensures valid { OnOk result (All (λ row. IsNameIf loose (name_in row.name)) rows.now) }
     ensures fault { IfErr result (λ e. (e ≡ error.Name)
-        × (¬ (All (λ row. IsName (name_in row.name)) rows.now))) }
+        × (¬ (All (λ row. IsNameIf loose (name_in row.name)) rows.now))) }
 {
     for row in rows {
-        agents.push_reserved(name_of(&row.name)?);
+        agents.push_reserved(name_of(&row.name, loose)?);
     }
     Ok(())
 }
 
 /// Adds domains to none, for all of which there is room.
-fn add_domains(domains: &mut Vec<Domain>, rows: &[DomainRow]) -> Result<(), PlanError>
+fn add_domains(domains: &mut Vec<Domain>, rows: &[DomainRow], loose: bool) -> Result<(), PlanError>
     requires rows { All (λ row. is_domain_row row ≡ true) rows.now }
     requires none { (domains.old.items ≡ []) × (vec_len domains.old ≡ 0) }
     requires room { length rows.now ≤ vec_capacity domains.old }
     ensures domains { OnOk result (domains.new.items ≡ map domain_in rows.now) }
-    ensures valid { OnOk result (All (λ row. IsName (name_in row.name)) rows.now) }
+    ensures valid { OnOk result (All (λ row. IsNameIf loose (name_in row.name)) rows.now) }
     ensures fault { IfErr result (λ e. (e ≡ error.Name)
-        × (¬ (All (λ row. IsName (name_in row.name)) rows.now))) }
+        × (¬ (All (λ row. IsNameIf loose (name_in row.name)) rows.now))) }
 {
     for row in rows {
         domains.push_reserved(Domain {
-            name: name_of(&row.name)?,
+            name: name_of(&row.name, loose)?,
             on: row.on != 0,
             synchronous: row.synchronous != 0,
             asynchronous: row.asynchronous != 0,
@@ -145,18 +160,19 @@ fn add_clocks(
     clocks: &mut Vec<Clock>,
     rows: &[ClockRow],
     rates: &[u64],
+    loose: bool,
 ) -> Result<(), PlanError>
     requires rows { All (λ row. is_clock_row (length rates.now) row ≡ true) rows.now }
     requires none { (clocks.old.items ≡ []) × (vec_len clocks.old ≡ 0) }
     requires room { length rows.now ≤ vec_capacity clocks.old }
     ensures clocks { OnOk result (clocks.new.items ≡ map (clock_in rates.now) rows.now) }
-    ensures valid { OnOk result (All (λ row. IsName (name_in row.name)) rows.now) }
+    ensures valid { OnOk result (All (λ row. IsNameIf loose (name_in row.name)) rows.now) }
     ensures fault { IfErr result (λ e. e ≢ error.Memory → (e ≡ error.Name)
-        × (¬ (All (λ row. IsName (name_in row.name)) rows.now))) }
+        × (¬ (All (λ row. IsNameIf loose (name_in row.name)) rows.now))) }
 {
     for row in rows {
         clocks.push_reserved(Clock {
-            name: name_of(&row.name)?,
+            name: name_of(&row.name, loose)?,
             enabled: row.enabled != 0,
             rate: row.rate,
             rates: clock_rates(alloc, row, rates)?,

@@ -90,6 +90,7 @@ module _ (board : Board) where
   event_of_board logs sent before (event.CommandFailed a f fault) may = refusal_of_board a fault f may.0
   event_of_board logs sent before (event.AdvanceFailed fault) may = one_of_board (step.AdvanceFailed fault) tt
   event_of_board logs sent before (event.Restarted a) may = one_of_board (step.Restart a) may
+  event_of_board logs sent before (event.Promoted place) may = none_of_board
   event_of_board logs sent before (event.Reported effect) may = one_of_board (step.Report effect) tt
 
   events_of_board : (h : List Event) → IsLegal board h → (logs : List AgentLog) (sent : List ℕ) (before after : List Event) → h ≡ before ++ after → All OfBoard (steps_after logs sent after)

@@ -41,7 +41,7 @@ taken_by logs a = elim (slice_get logs (a - 1)) [ None ↦ 0 | Some log ↦ leng
 abbrev pub taking_steps : List AgentLog → List ℕ → ℕ → List Step
 taking_steps logs sent a = if nat_lt (count_by (nat_eq a) sent) (taken_by logs a) then step.Agent a agent_step.P2a ∷ [] else []
 
--- the steps of an event, after messages were posted to these agents: a command is posted, served and collected; an advance is one; a message that is posted is a flush, and the agent takes it if its log has it; the restart of an agent is one; a report of the hardware is one
+-- the steps of an event, after messages were posted to these agents: a command is posted, served and collected; an advance is one; a message that is posted is a flush, and the agent takes it if its log has it; the restart of an agent is one; a report of the hardware is one; a promotion has none, since no step makes one
 abbrev pub steps_of_event : List AgentLog → List ℕ → Event → List Step
 steps_of_event logs sent (event.Command a frame) = command_steps a frame
 steps_of_event logs sent (event.CommandFailed a frame fault) = refusal_steps a fault frame
@@ -49,6 +49,7 @@ steps_of_event logs sent event.Advance = step.Advance ∷ []
 steps_of_event logs sent (event.AdvanceFailed fault) = step.AdvanceFailed fault ∷ []
 steps_of_event logs sent (event.Sent a) = step.Platform a platform_step.Flush ∷ taking_steps logs sent a
 steps_of_event logs sent (event.Restarted a) = step.Restart a ∷ []
+steps_of_event logs sent (event.Promoted place) = []
 steps_of_event logs sent (event.Reported effect) = step.Report effect ∷ []
 
 -- the agent to which an event posted a message, if it did

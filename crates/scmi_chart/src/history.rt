@@ -58,6 +58,8 @@ fn add_event(
         Event::AdvanceFailed(fault) => add(steps, Step::AdvanceFailed { fault: *fault }),
         Event::Sent(agent) => add_message(steps, sent, logs, *agent),
         Event::Restarted(agent) => add(steps, Step::Restart { agent: *agent }),
+        // No step makes one.
+        Event::Promoted(_) => Ok(()),
         Event::Reported(effect) => add(steps, Step::Report { effect: *effect }),
     }
 }

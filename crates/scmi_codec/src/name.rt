@@ -1,6 +1,6 @@
 //! Names of agents, domains, clocks and vendors.
 ghost use Rattle.std.specs.Prelude.{◌≤◌, ◌≡◌, ◌↔◌, ◌++◌, ◌-◌, IsSome, IfSome, IsTrue, length, replicate};
-ghost use Rattle.scmi_codec.specs.Name.{IsName, IsPrintable, four_words, name_words};
+ghost use Rattle.scmi_codec.specs.Name.{IsLooseName, IsName, IsPrintable, IsText, four_words, name_words};
 
 use crate::word::read_word;
 use arrayvec::ArrayVec;
@@ -9,7 +9,7 @@ use std::marker::Model;
 /// The most bytes of a name, so that one zero at least ends it in a reply (own).
 pub const NAME_BYTES: usize = 15;
 
-/// A name of 1 to `NAME_BYTES` printable bytes, each 0x21 to 0x7E (own).
+/// A name of at most `NAME_BYTES` bytes, each 0x20 to 0x7E (own).
 #[derive(PartialEq, Eq, Debug, Drop)]
 pub struct Name {
     bytes: ArrayVec<u8, NAME_BYTES>,
@@ -17,13 +17,13 @@ pub struct Name {
 
 impl Model for Name {
     ghost use Rattle.std.specs.Prelude.{ℕ, List};
-    ghost use Rattle.scmi_codec.specs.Name.{IsName};
+    ghost use Rattle.scmi_codec.specs.Name.{IsLooseName};
 
     ghost Value = { List ℕ };
 
     ghost view = { λ n. n.bytes.items };
 
-    ghost invariant = { λ n. IsName n.bytes.items };
+    ghost invariant = { λ n. IsLooseName n.bytes.items };
 
     ghost inverse = { λ v. record { bytes = record { items = v } } };
 }
@@ -39,9 +39,20 @@ fn is_printable(bytes: &[u8]) -> bool
     true
 }
 
+fn is_text(bytes: &[u8]) -> bool
+    ensures { IsTrue result ↔ IsText bytes.now }
+{
+    for byte in bytes {
+        if *byte < 0x20 || *byte > 0x7e {
+            return false;
+        }
+    }
+    true
+}
+
 impl Name {
     /// The name of a text; `None` if the text is empty, longer than `NAME_BYTES`, or has a byte
-    /// that is not printable.
+    /// that is not printable, 0x21 to 0x7E.
     pub fn new(text: &str) -> Option<Name>
         ensures name { IfSome result (λ name. name ≡ text.now) }
         ensures variant { IsSome result ↔ IsName text.now }
@@ -50,11 +61,29 @@ impl Name {
         if bytes.is_empty() || bytes.len() > NAME_BYTES || !is_printable(bytes) {
             return None;
         }
-        let mut name = ArrayVec::new();
-        match name.try_extend_from_slice(bytes) {
-            Ok(()) => Some(Name { bytes: name }),
-            Err(_) => None,
+        Some(Name::of(bytes))
+    }
+
+    /// The name of a text that may be empty and have blanks; `None` if the text is longer than
+    /// `NAME_BYTES`, or has a byte that is neither a blank nor printable, 0x20 to 0x7E.
+    pub fn loose(text: &str) -> Option<Name>
+        ensures name { IfSome result (λ name. name ≡ text.now) }
+        ensures variant { IsSome result ↔ IsLooseName text.now }
+    {
+        let bytes = text.as_bytes();
+        if bytes.len() > NAME_BYTES || !is_text(bytes) {
+            return None;
         }
+        Some(Name::of(bytes))
+    }
+
+    fn of(bytes: &[u8]) -> Name
+        requires { IsLooseName bytes.now }
+        ensures { result ≡ bytes.now }
+    {
+        let mut name = ArrayVec::new();
+        let _ = name.try_extend_from_slice(bytes);
+        Name { bytes: name }
     }
 }
 

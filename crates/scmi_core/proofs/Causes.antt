@@ -29,14 +29,14 @@ use Rattle.scmi_clock.specs.ClockProtocol.{clock_effect, later_effect, may_in, s
 use Rattle.scmi_clock.specs.ClockTable.{enabled_now, rate_later, rate_now}
 use Rattle.scmi_clock.proofs.ClockLaws.{clock_laws}
 use Rattle.scmi_core.specs.declared.event.Event.{Event}
-use Rattle.scmi_core.specs.declared.event.Event.TheVariants.{Command, Advance, Sent, CommandFailed, AdvanceFailed, Restarted, Reported}
+use Rattle.scmi_core.specs.declared.event.Event.TheVariants.{Command, Advance, Sent, CommandFailed, AdvanceFailed, Restarted, Promoted, Reported}
 use Rattle.scmi_core.specs.declared.pending_set.PendingSet.{PendingSet}
 use Rattle.scmi_core.specs.Deed.{Success, fold_with_prefix, success_at, success_of, success_with}
 use Rattle.scmi_core.specs.History.{deed_after, deeds}
 use Rattle.scmi_core.specs.Laws.{HasCause, HasIntegrity, HasOrigin, IsKeptOn, IsKeptOnByAgents, IsReported, KeepsOn, change_asked, may_after, resource_of}
 use Rattle.scmi_core.specs.Legal.{CanFollow, IsLegal}
 use Rattle.scmi_core.specs.Outbox.{situation_after}
-use Rattle.scmi_core.specs.Pending.{acceptance, pending_sets, rate_set, state_set, unwanted}
+use Rattle.scmi_core.specs.Pending.{acceptance, pending_sets, promoted, rate_set, state_set, unwanted}
 use Rattle.scmi_core.specs.ReadCommand.{command_on}
 use Rattle.scmi_core.specs.Reply.{fits_channel, reply_words}
 use Rattle.scmi_core.specs.Situation.{Situation, clock_view, power_view}
@@ -44,6 +44,7 @@ use Rattle.scmi_core.specs.Value.{Change, Enabled, Rate, State, bit_value, chang
 use Rattle.scmi_core.proofs.Accepting.{All-option, then_some}
 use Rattle.scmi_core.proofs.Deeds.{changes-push}
 use Rattle.scmi_core.proofs.Following.{change-is, change_in, pending-next, pending_next}
+use Rattle.scmi_core.proofs.Promotions.{promoted-all}
 use Rattle.scmi_core.proofs.Legal.{Grown, IsLegal-front, IsLegal-last, advances_le-accepted, deeds-push, empty, grow, grown}
 
 -- A SUCCESS THAT ASKS FOR A CHANGE
@@ -272,6 +273,12 @@ module _ (board : Board) (h : List Event) (legal : IsLegal board h) (had : HasCa
       (λ all.
       All-same (λ p. HasCause board (h ++ Restarted a ∷ []) (completion p)) (map (unwanted a) pending ++ []) (map (unwanted a) pending) (append-nil (map (unwanted a) pending))
       (All-map (λ p. HasCause board (h ++ Restarted a ∷ []) (completion p)) (unwanted a) pending all))
+  causes (Promoted place) follows =
+      let pending = pending_sets board (deeds board h) in
+      causes-more board h (Promoted place) legal had (λ change is. absurd (cc))
+      (λ all.
+      All-same (λ p. HasCause board (h ++ Promoted place ∷ []) (completion p)) (promoted place pending ++ []) (promoted place pending) (append-nil (promoted place pending))
+      (promoted-all (λ p. HasCause board (h ++ Promoted place ∷ []) (completion p)) place pending all))
   causes (Reported effect) follows =
       let pending = pending_sets board (deeds board h) in
       causes-more board h (Reported effect) legal had

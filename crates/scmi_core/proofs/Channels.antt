@@ -22,7 +22,7 @@ use Rattle.scmi_power.specs.PowerTable.{notification}
 use Rattle.scmi_power.proofs.PowerLaws.{power_laws}
 use Rattle.scmi_core.specs.declared.event.Event.{Event}
 use Rattle.scmi_codec.specs.declared.fault.Fault.{Fault}
-use Rattle.scmi_core.specs.declared.event.Event.TheVariants.{Command, Advance, Sent, CommandFailed, AdvanceFailed, Restarted, Reported}
+use Rattle.scmi_core.specs.declared.event.Event.TheVariants.{Command, Advance, Sent, CommandFailed, AdvanceFailed, Restarted, Promoted, Reported}
 use Rattle.scmi_core.specs.declared.pending_set.PendingSet.{PendingSet}
 use Rattle.scmi_core.specs.declared.pending_set.Setting.{Setting}
 use Rattle.scmi_core.specs.declared.pending_set.Setting.TheVariants as setting
@@ -32,7 +32,7 @@ use Rattle.scmi_core.specs.Deed.{Deed, fold_with_prefix, success_of, success_wit
 use Rattle.scmi_core.specs.History.{answer_to, deed_after, deeds, made_for, outbox}
 use Rattle.scmi_core.specs.Legal.{IsLegal}
 use Rattle.scmi_core.specs.Outbox.{failed_response_for, failed_response_to, failed_words, is_restart_of, made_in, message_with, messages_left, messages_made, notice_in, response_for, response_to, sent_count, situation_after, state_changed}
-use Rattle.scmi_core.specs.Pending.{acceptance, sets_by, unwanted}
+use Rattle.scmi_core.specs.Pending.{acceptance, promoted, sets_by, unwanted}
 use Rattle.scmi_core.specs.ReadCommand.{command_on}
 use Rattle.scmi_core.specs.Reply.{fits_channel, reply_words}
 use Rattle.scmi_core.specs.Situation.{Situation, power_view}
@@ -42,6 +42,7 @@ use Rattle.scmi_core.proofs.Accepting.{All-option, accepted}
 use Rattle.scmi_core.proofs.Following.{change_in, completed_in, failed_in, made_next, messages-next, next, pending_next, situation-next}
 use Rattle.scmi_core.proofs.Isolation.{answers-push}
 use Rattle.scmi_core.proofs.Legal.{Grown, IsLegal-front, advances_le-accepted, deeds-push, empty, grow, grown, sent_le-made}
+use Rattle.scmi_core.proofs.Promotions.{promoted-all}
 use Rattle.scmi_core.proofs.Room.{valid_channel, reply-within}
 use Rattle.scmi_core.proofs.Situations.{nothing_if}
 
@@ -76,6 +77,7 @@ one-answer board a h Advance law = All-nil (IsAnswerWithin board a)
 one-answer board a h (AdvanceFailed fault) law = All-nil (IsAnswerWithin board a)
 one-answer board a h (Sent c) law = All-nil (IsAnswerWithin board a)
 one-answer board a h (Restarted c) law = All-nil (IsAnswerWithin board a)
+one-answer board a h (Promoted place) law = All-nil (IsAnswerWithin board a)
 one-answer board a h (Reported effect) law = All-nil (IsAnswerWithin board a)
 
 answers_of : (board : Board) (a : ℕ) {h : List Event} → IsValid board → Grown h → All (IsAnswerWithin board a) (answers_to board a h)
@@ -173,6 +175,7 @@ module _ (board : Board) (b : ℕ) (s : Situation) (quiet : IsUnsent b s) where
   no-response (CommandFailed a frame fault) = refl
   no-response (Sent a) = refl
   no-response (Restarted a) = refl
+  no-response (Promoted place) = refl
   no-response (Reported effect) = refl
 
   no-failure : (e : Event) → option_map_or (failed_response_for b (fault_in e)) (failed_in s.pending e) [] ≡ []
@@ -182,6 +185,7 @@ module _ (board : Board) (b : ℕ) (s : Situation) (quiet : IsUnsent b s) where
   no-failure (CommandFailed a frame fault) = refl
   no-failure (Sent a) = refl
   no-failure (Restarted a) = refl
+  no-failure (Promoted place) = refl
   no-failure (Reported effect) = refl
 
   untold : (x : Bool) (m : Message) → (if x && false then m ∷ [] else []) ≡ []
@@ -270,6 +274,7 @@ module _ (board : Board) (b : ℕ) (one_way : IsOneWay board b) where
     unsubscribed (AdvanceFailed fault) d = quiet.subscribed d
     unsubscribed (Sent a) d = quiet.subscribed d
     unsubscribed (Reported effect) d = quiet.subscribed d
+    unsubscribed (Promoted place) d = quiet.subscribed d
     unsubscribed (Restarted a) d = by (a == b) where
       by : (own : Bool) → unwrap_or (option_or (if own then Some false else None) None) (s.subscribed d) ≡ false
       by true = refl
@@ -295,6 +300,9 @@ module _ (board : Board) (b : ℕ) (one_way : IsOneWay board b) where
     not-pending (Restarted a) =
         subst (All (λ p. (p.agent == b) ≡ false)) (sym (append-nil (map (unwanted a) s.pending)))
         (All-map (λ p. (p.agent == b) ≡ false) (unwanted a) s.pending quiet.pending)
+    not-pending (Promoted place) =
+        subst (All (λ p. (p.agent == b) ≡ false)) (sym (append-nil (promoted place s.pending)))
+        (promoted-all (λ p. (p.agent == b) ≡ false) place s.pending quiet.pending)
     not-pending Advance = All-drop (λ p. (p.agent == b) ≡ false) 1 s.pending quiet.pending
     not-pending (AdvanceFailed fault) = All-drop (λ p. (p.agent == b) ≡ false) 1 s.pending quiet.pending
 

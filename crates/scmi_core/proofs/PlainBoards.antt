@@ -1,15 +1,20 @@
--- A board that keeps nothing, denies nothing and shares nothing out gives what it gives if no board says such things.
-use Rattle.std.proofs.Common.{◌≡◌, ◌⊎◌, inl, inr, ℕ, suc, ◌+◌, ◌-◌, ◌<◌, ◌==◌, ◌&&◌, ◌||◌, ◌≤◌, nat_le, nat_lt, Bool, true, false, not, if◌then◌else◌, List, [], ◌∷◌, length, Some, None, Err, refl, sym, ap, ◌∙◌, arith}
+-- A board that keeps nothing, denies nothing, shares nothing out and is not loose gives what it gives if no board says such things.
+use Rattle.std.proofs.Common.{◌≡◌, ◌⊎◌, inl, inr, ℕ, suc, ◌+◌, ◌-◌, ◌<◌, ◌==◌, ◌&&◌, ◌||◌, ◌≤◌, nat_le, nat_lt, Bool, true, false, not, if◌then◌else◌, List, [], ◌∷◌, length, Some, None, Err, refl, sym, ap, subst, ◌∙◌, arith}
 use Rattle.std.specs.Int.{bit_at}
-use Rattle.std.specs.List.{filter, list_any}
+use Rattle.std.specs.List.{filter, list_all, list_any}
 use Rattle.std.proofs.lemmas.Bool.Decides.{Decides-eqb, Decides-like, leb_tells, nat_tests, same_from_decides}
+use Rattle.std.proofs.lemmas.List.Elements.{All-from_get_or}
 use Rattle.std.proofs.lemmas.List.Filters.{length-filter_both}
 use Rattle.std.proofs.lemmas.Nat.Bits.{bit_at-zero}
 use Rattle.scmi_codec.specs.Command.{command_of}
 use Rattle.scmi_codec.specs.declared.message.Message.{Message}
 use Rattle.scmi_codec.specs.declared.status.Status.TheVariants.{NotSupported}
+use Rattle.scmi_codec.specs.Name.{IsName}
 use Rattle.scmi_codec.specs.Reply.{bit_0, reply_unless}
-use Rattle.scmi_plan.specs.Board.{Board, clock_at, holds, nothing_denied, own_protocols}
+use Rattle.scmi_plan.specs.Board.{Board, IsNameIf, clock_at, holds, nothing_denied, own_protocols}
+use Rattle.scmi_plan.specs.PlanError.{is_loose_name, is_name, is_valid, supports}
+use Rattle.scmi_plan.specs.declared.clock.Clock.{Clock}
+use Rattle.scmi_plan.specs.declared.domain.Domain.{Domain}
 use Rattle.scmi_plan.specs.declared.resource.Resource.TheVariants as resource
 use Rattle.scmi_plan.specs.declared.scope.Scope.{Scope}
 use Rattle.scmi_plan.specs.declared.scope.Scope.TheVariants as scope
@@ -20,7 +25,7 @@ use Rattle.scmi_power.specs.PowerReply.{PowerView, may_set, power_reply, set_rep
 use Rattle.scmi_clock.specs.ClockReply.{ClockView, clock_reply, config_checks, rate_if, rounded_rate}
 use Rattle.scmi_core.specs.Deed.{fold_with_prefix}
 use Rattle.scmi_core.specs.Pending.{sets_by}
-use Rattle.scmi_core.specs.PlainBoards.{AllowsAll, ConfiguresByPermission, FindsClocks, FindsDomains, ListsOwn, ReadsAll, ResetsToAll, Rounds, SetsByPermission, SharesAll}
+use Rattle.scmi_core.specs.PlainBoards.{AllowsAll, ConfiguresByPermission, FindsClocks, FindsDomains, ListsOwn, Names, ReadsAll, Refuses, ResetsToAll, Rounds, SetsByPermission, SharesAll, Starts}
 use Rattle.scmi_core.specs.ReadCommand.{lacks_protocol}
 use Rattle.scmi_core.specs.declared.pending_set.PendingSet.{PendingSet}
 
@@ -123,3 +128,29 @@ reads board m = λ own. ap (λ (missing : Bool). if missing then Err NotSupporte
 pub lists : (board : Board) (caller skip : ℕ) → ListsOwn board caller skip
 unfolding base_reply
 lists board caller skip = λ own. ap (λ (ids : List ℕ). protocols_reply ids skip) own
+
+-- a name that a board may have is one if the board is not loose
+pub names : (board : Board) → Names board
+names board = λ strict valid.
+    let one : (name : List ℕ) → IsNameIf board.loose name → IsName name = λ name is. subst (λ (loose : Bool). IsNameIf loose name) strict is in
+    record {
+      vendor = one board.vendor valid.vendor;
+      sub_vendor = one board.sub_vendor valid.sub_vendor;
+      agents = λ k d small. one _ (valid.agent_names k d small);
+      domains = All-from_get_or (λ (domain : Domain). IsName domain.name) board.domains _ (λ d small. one _ (valid.domain_names d small));
+      clocks = All-from_get_or (λ (clock : Clock). IsName clock.name) board.clocks _ (λ c small. one _ (valid.clock_names c small));
+    }
+
+pub starts : (board : Board) (c : ℕ) → Starts board c
+starts board c = λ strict valid small. valid.supported c small strict
+
+pub refuses : (board : Board) → Refuses board
+refuses board = λ strict. (
+  ap
+      (λ (loose : Bool).
+      let is : List ℕ → Bool = λ name. if loose then is_loose_name name else is_name name in
+      is board.vendor && is board.sub_vendor && list_all is board.agents
+      && list_all (λ domain. is domain.name) board.domains && list_all (λ clock. is clock.name) board.clocks)
+      strict,
+  ap (λ (loose : Bool). list_all (λ (clock : Clock). is_valid clock.rates && (loose || supports clock.rates clock.rate)) board.clocks) strict,
+)

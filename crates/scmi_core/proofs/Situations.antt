@@ -25,7 +25,7 @@ use Rattle.scmi_clock.specs.ClockReply.{clock_reply}
 use Rattle.scmi_clock.specs.ClockTable as clock_table
 use Rattle.scmi_core.specs.declared.tables.Tables.{Tables}
 use Rattle.scmi_core.specs.declared.pending_set.PendingSet.{PendingSet}
-use Rattle.scmi_core.specs.declared.event.Event.TheVariants.{Restarted, Sent}
+use Rattle.scmi_core.specs.declared.event.Event.TheVariants.{Promoted, Restarted, Sent}
 use Rattle.scmi_core.specs.Deed.{Deed}
 use Rattle.scmi_core.specs.Value.{Change, Thing, State, Rate, Enabled, bit_value}
 use Rattle.scmi_core.specs.Pending.{has_room_beside, has_set_of, pending_sets, sets_by}
@@ -78,6 +78,15 @@ outbox-restarted board a h b enough =
     outbox-push board a h deed refl enough
     ∙ ap (λ ys. left ++ ys) (nothing-made a (situation_after board a h) (pending_sets board (h ++ deed ∷ [])))
     ∙ append-nil left
+
+-- a promotion leaves each outbox
+pub outbox-promoted : (board : Board) (a : ℕ) (h : List Deed) (place : ℕ) → sent_count a h ≤ length (messages_made board a h)
+    → outbox_after board a (h ++ record { event = Promoted place; reply = [] } ∷ []) ≡ outbox_after board a h
+outbox-promoted board a h place enough =
+    let deed : Deed = record { event = Promoted place; reply = [] } in
+    outbox-push board a h deed refl enough
+    ∙ ap (λ ys. outbox_after board a h ++ ys) (nothing-made a (situation_after board a h) (pending_sets board (h ++ deed ∷ [])))
+    ∙ append-nil (outbox_after board a h)
 
 module _ (board : Board) (a : ℕ) (s u : Situation) (same : SameSituation board s u) where
   room-same : has_room board a s ≡ has_room board a u

@@ -20,26 +20,28 @@ use Rattle.scmi_clock.specs.ClockTable.{rate_at, enabled_at}
 use Rattle.scmi_core.specs.declared.pending_set.PendingSet.{PendingSet}
 use Rattle.scmi_core.specs.declared.event.Event.{Event}
 use Rattle.scmi_codec.specs.declared.fault.Fault.{Fault}
-use Rattle.scmi_core.specs.declared.event.Event.TheVariants.{Command, Advance, Sent, CommandFailed, AdvanceFailed, Restarted}
+use Rattle.scmi_core.specs.declared.event.Event.TheVariants.{Command, Advance, Sent, CommandFailed, AdvanceFailed, Restarted, Promoted}
 use Rattle.scmi_core.specs.declared.tables.Tables.{Tables}
 use Rattle.std.specs.Option.{option_to_list, option_and_then, option_map_or, option_or}
 use Rattle.scmi_core.specs.Deed.{Deed, restarted_by, success_with, fold_with_prefix, success_of}
 use Rattle.scmi_core.specs.Permissions.{permission_in, has_permission}
 use Rattle.scmi_core.specs.Subscriptions.{subscription, subscription_after_reset, is_subscriber}
 use Rattle.scmi_core.specs.Value.{value, change_by, commanded_by, completed_set, failed_set, reported, Thing, State, Rate, Enabled, bit_value, value_in, value_at_start, change_of}
-use Rattle.scmi_core.specs.Pending.{acceptance, pending_sets, unwanted}
+use Rattle.scmi_core.specs.Pending.{acceptance, pending_sets, promoted, unwanted}
 use Rattle.scmi_core.specs.Outbox.{failed_response_for, failed_words, message_with, messages_made, made_by, made_in, outbox_after, sent_count, is_sent_by, situation_after}
-use Rattle.scmi_core.specs.History.{answer_to, deeds, outbox}
-use Rattle.scmi_core.specs.Legal.{CanFollow}
+use Rattle.scmi_core.specs.History.{HasPendingAt, IsIdle, answer_to, deeds, outbox}
+use Rattle.scmi_core.specs.Legal.{CanFollow, IsLegal}
 use Rattle.scmi_core.specs.Effect.{effect_after, effect_in, effect_of, effect_read}
 use Rattle.scmi_core.specs.ReadCommand.{command_on}
 use Rattle.scmi_core.specs.Reply.{answer_in, fits_channel, reply_in, reply_words, words_given}
+use Rattle.scmi_core.specs.Outboxes.{outbox_in}
 use Rattle.scmi_core.specs.Tables.{outbox_at, situation_in, value_at, IsThing, IsOfBoard}
-use Rattle.scmi_core.specs.Step.{HasAnswered, HasFailed, HasRestarted, rest_of, HasStepped}
+use Rattle.scmi_core.specs.Step.{HasAnswered, HasFailed, HasPromoted, HasRestarted, rest_of, HasStepped}
 use Rattle.scmi_core.specs.Agreement.{Agrees}
 use Rattle.scmi_core.proofs.Deeds.{added_success, made_by-unfailed, has_permission-push, is_subscriber-push, value-push, pending_sets-push, pending_sets-advance, pending_sets-failed, outbox-push, IsLegal-push, sent_count-push}
 use Rattle.scmi_core.proofs.Legal.{IsLegal-nil, deeds-push, advances_le-accepted, sent_le-made}
-use Rattle.scmi_core.proofs.Situations.{SameSituation, answer-same, messages_made-same, messages_made-sent, nothing-made, outbox-restarted, given-same, reply-same}
+use Rattle.scmi_core.proofs.Situations.{SameSituation, answer-same, messages_made-same, messages_made-sent, nothing-made, outbox-promoted, outbox-restarted, given-same, reply-same}
+use Rattle.scmi_core.proofs.Promotions.{promoted-all, promoted-length}
 
 -- the tables say of each agent what the history says
 pub same-situation : (board : Board) (t : Tables) (h : List Event) (a : ℕ) → Agrees board t h → IsValid board → 1 ≤ a → a ≤ length board.agents
@@ -327,6 +329,44 @@ Agrees-restarted board t new h a agrees lo hi it =
           it.others x lo' other.1 ∙ agrees.outboxes x lo' hi'
           ∙ sym (ap (outbox_after board x) (deeds-push board h (Restarted a)) ∙ outbox-restarted board x (deeds board h) a (sent_le-made board h agrees.legal x)
           ∙ ap (λ own. if own then [] else outbox board x h) other.0)
+
+-- a pending set that went before the others
+pub Agrees-promoted : (board : Board) (t new : Tables) (h : List Event) (place : ℕ) → Agrees board t h → place < length t.pending → HasPromoted place t new
+    → Agrees board new (h ++ Promoted place ∷ [])
+unfolding outbox
+Agrees-promoted board t new h place agrees within it =
+    let deed : Deed = record { event = Promoted place; reply = [] } in
+    let more = deeds-push board h (Promoted place) in
+    let follows : place < length (pending_sets board (deeds board h)) = subst (λ p. place < length p) agrees.pending within in
+    record {
+      legal = IsLegal-push board h (Promoted place) agrees.legal follows;
+      permissions = λ x d scope lo hi small. ap (λ b. is_allowed b x d scope) it.rest.base ∙ agrees.permissions x d scope lo hi small ∙ sym (ap (has_permission board x d scope) more ∙ has_permission-push board x d scope (deeds board h) deed);
+      subscriptions = λ x d lo hi small. ap (λ p. is_subscribed p x d) it.rest.power ∙ agrees.subscriptions x d lo hi small ∙ sym (ap (is_subscriber board x d) more ∙ is_subscriber-push board x d (deeds board h) deed);
+      values = λ x within. same_value x ∙ agrees.values x within ∙ sym (ap (value board x) more ∙ value-push board x (deeds board h) deed);
+      pending = it.pending ∙ ap (promoted place) agrees.pending ∙ sym (append-nil (promoted place (pending_sets board (deeds board h))))
+          ∙ sym (ap (pending_sets board) more ∙ pending_sets-push board (deeds board h) deed refl (advances_le-accepted board h agrees.legal));
+      known = subst (All (IsOfBoard board)) (sym it.pending) (promoted-all (IsOfBoard board) place t.pending agrees.known);
+      outboxes = λ x lo hi.
+          ap (λ boxes. outbox_in boxes x) it.rest.outboxes
+          ∙ agrees.outboxes x lo hi
+          ∙ sym (ap (outbox_after board x) more ∙ outbox-promoted board x (deeds board h) place (sent_le-made board h agrees.legal x));
+    } where
+      same_value : (x : Thing) → value_at new x ≡ value_at t x
+      same_value (State d) = ap (λ p. state_at p d) it.rest.power
+      same_value (Rate k) = ap (λ p. rate_at p k) it.rest.clocks
+      same_value (Enabled k) = ap (λ p. bit_value (enabled_at p k)) it.rest.clocks
+
+-- after which a set is pending
+pub promoted-waits : (board : Board) (h : List Event) (place : ℕ) → IsLegal board h → HasPendingAt board h place → ¬ (IsIdle board (h ++ Promoted place ∷ []))
+promoted-waits board h place legal within = λ idle.
+    let deed : Deed = record { event = Promoted place; reply = [] } in
+    let pending = pending_sets board (deeds board h) in
+    let same =
+    ap (pending_sets board) (deeds-push board h (Promoted place))
+    ∙ pending_sets-push board (deeds board h) deed refl (advances_le-accepted board h legal)
+    ∙ append-nil (promoted place pending) in
+    let none : length pending ≡ 0 = sym (promoted-length place pending) ∙ ap length (sym same ∙ idle) in
+    absurd (omega (arith, none, within))
 
 -- the tables of a new controller
 pub Agrees-new : (board : Board) (t : Tables) → t.base ≡ board.denied → ((a d : ℕ) → is_subscribed t.power a d ≡ false)

@@ -28,6 +28,7 @@ board_b =
       absent = nothing_held;
       free = 0;
       protocols = own_protocols;
+      loose = false;
     }
 
 -- the same board with two devices that both hold the first domain

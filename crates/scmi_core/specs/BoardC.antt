@@ -1,5 +1,5 @@
 -- Boards of one agent and its clocks, for worked examples.
-use Rattle.std.specs.Prelude.{true, [], ◌∷◌, codes, replicate}
+use Rattle.std.specs.Prelude.{true, false, [], ◌∷◌, codes, replicate}
 use Rattle.scmi_plan.specs.Board.{Board, nothing_denied, nothing_held, own_protocols, whole_channel}
 use Rattle.scmi_plan.specs.declared.limits.TheConstants.{AGENTS}
 use Rattle.scmi_plan.specs.Rates as rates
@@ -22,6 +22,7 @@ board_c =
       absent = nothing_held;
       free = 0;
       protocols = own_protocols;
+      loose = false;
     }
 
 -- the same board with one clock, of the rates 1 to 64

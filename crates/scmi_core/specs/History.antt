@@ -1,5 +1,5 @@
 -- The history of a platform: a list of events, oldest first. Each event is judged at its prefix, the events before it.
-use Rattle.std.specs.Prelude.{◌≡◌, ℕ, Bool, List, [], ◌∷◌, ◌++◌, length, take, Option, Some, None}
+use Rattle.std.specs.Prelude.{◌≡◌, ℕ, Bool, List, [], ◌∷◌, ◌++◌, length, take, ◌<◌, Option, Some, None}
 use Rattle.std.specs.List.{fold}
 use Rattle.scmi_codec.specs.declared.message.Message.{Message}
 use Rattle.scmi_codec.specs.declared.frame.Frame.{Frame}
@@ -64,6 +64,10 @@ outbox board a h = outbox_after board a (deeds board h)
 -- no set is pending after a history
 abbrev pub IsIdle : Board → List Event → Type 0
 IsIdle board h = pending_sets board (deeds board h) ≡ []
+
+-- a set is pending at this place after a history; 0 is the first
+abbrev pub HasPendingAt : Board → List Event → ℕ → Type 0
+HasPendingAt board h place = place < length (pending_sets board (deeds board h))
 
 -- nothing waits for this agent of the board after a history
 abbrev pub HasNothingFor : Board → ℕ → List Event → Type 0

@@ -1,9 +1,9 @@
 -- The first word of an event in a trace.
-use Rattle.std.specs.Prelude.{ℕ, ◌/◌, ◌%◌, ◌==◌, ◌≤◌, if◌then◌else◌}
+use Rattle.std.specs.Prelude.{ℕ, ◌-◌, ◌/◌, ◌%◌, ◌==◌, ◌≤◌, if◌then◌else◌}
 use Rattle.scmi_codec.specs.declared.fault.Fault.{Fault}
 use Rattle.scmi_codec.specs.declared.fault.Fault.TheVariants as fault
 use Rattle.scmi_core.specs.declared.mark.Mark.{Mark}
-use Rattle.scmi_core.specs.declared.mark.Mark.TheVariants.{Advance, Sent, Malformed, Message, Failed, AdvanceFailed, Restarted, StateReported, RateReported, EnabledReported}
+use Rattle.scmi_core.specs.declared.mark.Mark.TheVariants.{Advance, Sent, Malformed, Message, Failed, AdvanceFailed, Restarted, Promoted, StateReported, RateReported, EnabledReported}
 
 -- the fault of a number, counted from 0; any other number is read as the last fault
 abbrev pub fault_numbered : ℕ → Fault
@@ -16,12 +16,16 @@ fault_numbered number =
     else if number == 5 then fault.GenericError
     else fault.HardwareError
 
--- the mark of a report, by what it is of
+-- the mark of a report, by what it is of, or from 3 on of a promotion, by its place
 abbrev pub report_of : ℕ → Mark
-report_of thing = if thing == 0 then StateReported else if thing == 1 then RateReported else EnabledReported
+report_of number =
+    if number == 0 then StateReported
+    else if number == 1 then RateReported
+    else if number == 2 then EnabledReported
+    else Promoted (number - 3)
 
 -- what a word marks: its lowest three bits say what the event is, and the bits above them whose; of a command that
--- failed these are four bits; from bit 7 on there is the fault of what failed; of a report the bits above say of what
+-- failed these are four bits; from bit 7 on there is the fault of what failed; of a report the bits above say of what, and of a promotion at which place
 abbrev pub mark_of : ℕ → Mark
 mark_of word =
     if word % 8 == 0 then Advance
@@ -33,7 +37,7 @@ mark_of word =
     else if word % 8 == 6 then Message (word / 8)
     else report_of (word / 8)
 
--- a mark's agent, if it has one, is at most a number
+-- a mark's agent or place, if it has one, is at most a number
 abbrev pub HasAgent : Mark → ℕ → Type 0
 HasAgent Advance most = Unit {0}
 HasAgent (Sent a) most = a ≤ most
@@ -41,6 +45,7 @@ HasAgent (Malformed a) most = a ≤ most
 HasAgent (Message a) most = a ≤ most
 HasAgent (Failed a fault) most = a ≤ most
 HasAgent (Restarted a) most = a ≤ most
+HasAgent (Promoted place) most = place ≤ most
 HasAgent (AdvanceFailed fault) most = Unit {0}
 HasAgent StateReported most = Unit {0}
 HasAgent RateReported most = Unit {0}

@@ -16,7 +16,7 @@ use Rattle.scmi_core.specs.declared.pending_set.PendingSet.{PendingSet}
 use Rattle.scmi_core.specs.declared.pending_set.Setting.{Setting}
 use Rattle.scmi_core.specs.declared.event.Event.{Event}
 use Rattle.scmi_core.specs.declared.event.Event.TheVariants.{Advance, AdvanceFailed}
-use Rattle.scmi_core.specs.Deed.{Deed, Success, fold_with_prefix, restarted_by, success_at}
+use Rattle.scmi_core.specs.Deed.{Deed, Success, fold_with_prefix, promoted_by, restarted_by, success_at}
 use Rattle.scmi_core.specs.declared.pending_set.Setting.TheVariants as setting
 
 -- a domain's set that is accepted for later: domain and state; it always wants a delayed response (own)
@@ -49,19 +49,29 @@ advances h = count_by (λ deed. is_advance deed.event) h
 abbrev pub unwanted : ℕ → PendingSet → PendingSet
 unwanted a p = record p { wanted = p.wanted && not (p.agent == a) }
 
--- what is left of the accepted sets, the first of which have ended: an agent that restarts wants no delayed response to those that are pending (own)
-abbrev pub sets_left : ℕ → Option ℕ → List PendingSet → List PendingSet
-sets_left ended None sets = sets
-sets_left ended (Some a) sets = take ended sets ++ map (unwanted a) (drop ended sets)
+-- a list with the item at a place before the others, which stay in order; without one there it is as it was
+abbrev pub promoted : {X : Type 0} → ℕ → List X → List X
+promoted place xs = take 1 (drop place xs) ++ (take place xs ++ drop (1 + place) xs)
 
--- the sets that were accepted for later, in order of acceptance
+-- the pending sets after an event that restarts an agent, which then wants no delayed response to them, or that puts one of them before the others (own)
+abbrev pub pending_left : (restarted promotion : Option ℕ) → List PendingSet → List PendingSet
+pending_left None None pending = pending
+pending_left None (Some place) pending = promoted place pending
+pending_left (Some a) promotion pending = map (unwanted a) pending
+
+-- what is left of the accepted sets, the first of which have ended
+abbrev pub sets_left : ℕ → (restarted promotion : Option ℕ) → List PendingSet → List PendingSet
+sets_left ended None None sets = sets
+sets_left ended restarted promotion sets = take ended sets ++ pending_left restarted promotion (drop ended sets)
+
+-- the sets that were accepted for later: those that ended, in the order in which they did, and then those that are pending, in the order in which they will end
 abbrev pub accepted_sets : Board → List Deed → List PendingSet
 accepted_sets board h =
     fold_with_prefix
-    (λ before so_far deed. sets_left (advances before) (restarted_by deed.event) so_far ++ option_to_list (option_and_then (acceptance board) (success_at board deed.event deed.reply)))
+    (λ before so_far deed. sets_left (advances before) (restarted_by deed.event) (promoted_by deed.event) so_far ++ option_to_list (option_and_then (acceptance board) (success_at board deed.event deed.reply)))
     [] [] h
 
--- sets end in order of acceptance, one per advance; the others are pending (own)
+-- sets end in order of acceptance, one per advance, but for those that are promoted; the others are pending (own)
 abbrev pub pending_sets : Board → List Deed → List PendingSet
 pending_sets board h = drop (advances h) (accepted_sets board h)
 

@@ -1,11 +1,17 @@
--- Which events a history has without the hardware's refusals and reports, and without restarts.
-use Rattle.std.specs.Prelude.{List}
+-- Which events a history has without the hardware's refusals and reports, without restarts and without promotions.
+use Rattle.std.specs.Prelude.{◌≡◌, List, [], ◌++◌, None}
 use Rattle.std.specs.List.{All}
+use Rattle.std.specs.Option.{option_and_then, option_to_list}
+use Rattle.scmi_plan.specs.Board.{Board}
+use Rattle.scmi_core.specs.declared.pending_set.PendingSet.{PendingSet}
+use Rattle.scmi_core.specs.Deed.{Deed, fold_with_prefix, restarted_by, success_at}
+use Rattle.scmi_core.specs.History.{deeds}
+use Rattle.scmi_core.specs.Pending.{acceptance, accepted_sets, advances, sets_left}
 use Rattle.scmi_core.specs.Standing.{Standing, StandsAfter}
 use Rattle.scmi_core.specs.declared.event.Event.{Event}
-use Rattle.scmi_core.specs.declared.event.Event.TheVariants.{Command, Advance, Sent, CommandFailed, AdvanceFailed, Restarted, Reported}
+use Rattle.scmi_core.specs.declared.event.Event.TheVariants.{Command, Advance, Sent, CommandFailed, AdvanceFailed, Restarted, Promoted, Reported}
 
--- a command, an advance or a posting: nothing failed, no agent restarted, and the hardware changed nothing by itself
+-- a command, an advance or a posting: nothing failed, no agent restarted, no set was promoted, and the hardware changed nothing by itself
 abbrev pub IsPlain : Event → Type 0
 IsPlain (Command a frame) = Unit {0}
 IsPlain Advance = Unit {0}
@@ -13,6 +19,7 @@ IsPlain (Sent a) = Unit {0}
 IsPlain (CommandFailed a frame fault) = ⊥
 IsPlain (AdvanceFailed fault) = ⊥
 IsPlain (Restarted a) = ⊥
+IsPlain (Promoted place) = ⊥
 IsPlain (Reported effect) = ⊥
 
 -- any event but a restart
@@ -24,6 +31,22 @@ IsNoRestart _ = Unit {0}
 abbrev pub IsNoReport : Event → Type 0
 IsNoReport (Reported effect) = ⊥
 IsNoReport _ = Unit {0}
+
+-- any event but a promotion
+abbrev pub IsNoPromotion : Event → Type 0
+IsNoPromotion (Promoted place) = ⊥
+IsNoPromotion _ = Unit {0}
+
+-- the sets that were accepted for later, in order of acceptance, whatever was promoted
+abbrev pub sets_in_order : Board → List Deed → List PendingSet
+sets_in_order board h =
+    fold_with_prefix
+    (λ before so_far deed. sets_left (advances before) (restarted_by deed.event) None so_far ++ option_to_list (option_and_then (acceptance board) (success_at board deed.event deed.reply)))
+    [] [] h
+
+-- sets end in order of acceptance
+abbrev pub EndsInOrder : Board → List Event → Type 0
+EndsInOrder board h = accepted_sets board (deeds board h) ≡ sets_in_order board (deeds board h)
 
 -- a platform is as a history of plain events leaves it
 abbrev pub HasPlainHistory : Standing → Type 0

@@ -1,13 +1,18 @@
 -- What the definitions give of a board that keeps nothing, denies nothing, shares nothing out, has all that it lists,
--- frees no clock and says nothing of its protocols: what they give if no board says such things.
-use Rattle.std.specs.Prelude.{◌≡◌, ◌==◌, ◌&&◌, ℕ, nat_le, nat_lt, true, if◌then◌else◌, List, [], ◌∷◌, length, Some, None}
+-- frees no clock, says nothing of its protocols and is not loose: what they give if no board says such things.
+use Rattle.std.specs.Prelude.{◌≡◌, ◌<◌, ◌==◌, ◌&&◌, ℕ, nat_le, nat_lt, true, false, if◌then◌else◌, List, [], ◌∷◌, length, Some, None}
+use Rattle.std.specs.List.{All, list_all}
 use Rattle.scmi_codec.specs.Command.{command_of}
 use Rattle.scmi_codec.specs.declared.message.Message.{Message}
+use Rattle.scmi_codec.specs.Name.{IsName}
 use Rattle.scmi_codec.specs.Reply.{bit_0, reply_unless}
 use Rattle.scmi_codec.specs.declared.base_command.BaseCommand.TheVariants.{Protocols, ResetAgent}
 use Rattle.scmi_codec.specs.declared.power_command.PowerCommand.TheVariants as power
 use Rattle.scmi_codec.specs.declared.clock_command.ClockCommand.TheVariants as clock
 use Rattle.scmi_plan.specs.Board.{Board, clock_at, nothing_denied, nothing_held, own_protocols}
+use Rattle.scmi_plan.specs.Plan.{IsValid}
+use Rattle.scmi_plan.specs.PlanError.{has_valid_clocks, has_valid_names, is_name, is_valid, supports}
+use Rattle.scmi_plan.specs.Rates.{IsSupported}
 use Rattle.scmi_plan.specs.declared.limits.TheConstants.{PENDING_SETS}
 use Rattle.scmi_plan.specs.declared.scope.Scope.{Scope}
 use Rattle.scmi_base.specs.BaseReply.{base_reply, protocols_reply}
@@ -64,6 +69,33 @@ abbrev pub ListsOwn : Board → (caller skip : ℕ) → Type 0
 ListsOwn board caller skip =
     board.protocols ≡ own_protocols
     → base_reply board caller (Protocols skip) ≡ protocols_reply own_protocols skip
+
+-- each of these is a name
+pub record AreNamed (board : Board) : Type 0 where
+  pub vendor : IsName board.vendor
+  pub sub_vendor : IsName board.sub_vendor
+  pub agents : All IsName board.agents
+  pub domains : All (λ domain. IsName domain.name) board.domains
+  pub clocks : All (λ clock. IsName clock.name) board.clocks
+
+-- each name of a valid board is one
+abbrev pub Names : Board → Type 0
+Names board = board.loose ≡ false → IsValid board → AreNamed board
+
+-- each clock of a valid board starts at a rate of its own
+abbrev pub Starts : Board → (c : ℕ) → Type 0
+Starts board c =
+    board.loose ≡ false → IsValid board → c < length board.clocks
+    → IsSupported (clock_at board c).rates (clock_at board c).rate
+
+-- the rules of names and of rates ask as much of each name, and of each clock
+abbrev pub Refuses : Board → Type 0
+Refuses board =
+    board.loose ≡ false
+    → (has_valid_names board
+    ≡ (is_name board.vendor && is_name board.sub_vendor && list_all is_name board.agents
+    && list_all (λ domain. is_name domain.name) board.domains && list_all (λ clock. is_name clock.name) board.clocks))
+    × (has_valid_clocks board ≡ list_all (λ clock. is_valid clock.rates && supports clock.rates clock.rate) board.clocks)
 
 -- an agent that all pending sets may be of has room for what is left of them and of its outbox
 abbrev pub SharesAll : (waiting a : ℕ) → List PendingSet → Type 0

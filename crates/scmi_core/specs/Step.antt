@@ -20,7 +20,7 @@ use Rattle.scmi_core.specs.Value.{Change, Thing, change_of, value_in}
 use Rattle.scmi_core.specs.Outboxes.{Gets, HasSameOutbox}
 use Rattle.scmi_core.specs.Tables.{IsOfBoard, IsThing, load_at, outbox_at, situation_in, value_at}
 use Rattle.scmi_core.specs.Deed.{Success, success_of}
-use Rattle.scmi_core.specs.Pending.{acceptance, unwanted}
+use Rattle.scmi_core.specs.Pending.{acceptance, promoted, unwanted}
 use Rattle.scmi_core.specs.Permissions.{permission_in}
 use Rattle.scmi_core.specs.Outbox.{failed_response_for, made_in, state_changed}
 use Rattle.scmi_core.specs.ReadCommand.{command_on}
@@ -87,6 +87,11 @@ pub record HasRestarted (a : ℕ) (t new : Tables) : Type 0 where
   pub pending : new.pending ≡ map (unwanted a) t.pending
   pub emptied : outbox_at new a ≡ []
   pub others : (b : ℕ) → 1 ≤ b → b ≢ a → HasSameOutbox t.outboxes new.outboxes b
+
+-- the pending set at a place went before the others, and nothing else changed
+pub record HasPromoted (place : ℕ) (t new : Tables) : Type 0 where
+  pub pending : new.pending ≡ promoted place t.pending
+  pub rest : SameButPending t new
 
 -- the hardware reported a change: its thing has the new value, subscribers are notified of it, and nothing else changed
 pub record HasReported (board : Board) (change : Change) (t new : Tables) : Type 0 where

@@ -6,7 +6,7 @@ use Rattle.scmi_codec.specs.declared.frame.Frame.TheVariants as frame
 use Rattle.scmi_codec.specs.declared.payload.TheConstants.{PAYLOAD_WORDS}
 use Rattle.scmi_plan.specs.declared.effect.Effect.TheVariants as effect
 use Rattle.scmi_core.specs.declared.event.Event.{Event}
-use Rattle.scmi_core.specs.declared.event.Event.TheVariants.{Command, Advance, Sent, CommandFailed, AdvanceFailed, Restarted, Reported}
+use Rattle.scmi_core.specs.declared.event.Event.TheVariants.{Command, Advance, Sent, CommandFailed, AdvanceFailed, Restarted, Promoted, Reported}
 use Rattle.scmi_core.specs.declared.mark.Mark.{Mark}
 use Rattle.scmi_core.specs.declared.mark.Mark.TheVariants as mark
 use Rattle.scmi_core.specs.Mark.{mark_of}
@@ -32,6 +32,7 @@ event_of (mark.Malformed a) size header payload = Command a (frame.Malformed siz
 event_of (mark.Sent a) size header payload = Sent a
 event_of (mark.Failed a fault) size header payload = CommandFailed a (frame.Good (message_with (header_of header) payload)) fault
 event_of (mark.Restarted a) size header payload = Restarted a
+event_of (mark.Promoted place) size header payload = Promoted place
 event_of mark.Advance size header payload = Advance
 event_of (mark.AdvanceFailed fault) size header payload = AdvanceFailed fault
 event_of mark.StateReported size header payload = Reported (effect.State size header)

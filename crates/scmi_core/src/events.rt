@@ -102,6 +102,7 @@ fn event_of(mark: Mark, size: u32, header: u32, payload: &[u32]) -> Event
         ),
         Mark::Sent(agent) => Event::Sent(agent),
         Mark::Restarted(agent) => Event::Restarted(agent),
+        Mark::Promoted(place) => Event::Promoted(place),
         Mark::Advance => Event::Advance,
         Mark::AdvanceFailed(fault) => Event::AdvanceFailed(fault),
         Mark::StateReported => Event::Reported(Effect::State {

@@ -7,7 +7,7 @@ use scmi_codec::Fault;
 
 /// What an event is, and whose. As a word it is the event's number, 0 to 6 in this order, and eight
 /// times its agent, and if it failed 128 times the number of its fault. A report is 7, and eight
-/// times 0 to 2 for what it is of.
+/// times 0 to 2 for what it is of; a promotion is 7, and eight times 3 and its place.
 #[derive(Clone, Copy, PartialEq, Eq, Debug)]
 pub enum Mark {
     Advance,
@@ -26,6 +26,8 @@ pub enum Mark {
     RateReported,
     /// The report of whether a clock is enabled.
     EnabledReported,
+    /// The promotion of the pending set at this place.
+    Promoted(u32),
 }
 
 impl Mark {
@@ -45,6 +47,7 @@ impl Mark {
             Mark::StateReported => 7,
             Mark::RateReported => 7 + 8,
             Mark::EnabledReported => 7 + 8 * 2,
+            Mark::Promoted(place) => 7 + 8 * (3 + place),
         }
     }
 
@@ -66,14 +69,15 @@ impl Mark {
     }
 }
 
-/// The mark of a report, by what it is of.
-fn report_of(thing: u32) -> Mark
-    ensures { result ≡ report_of thing }
+/// The mark of a report, by what it is of, or from 3 on of a promotion, by its place.
+fn report_of(number: u32) -> Mark
+    ensures { result ≡ report_of number }
 {
-    match thing {
+    match number {
         0 => Mark::StateReported,
         1 => Mark::RateReported,
-        _ => Mark::EnabledReported,
+        2 => Mark::EnabledReported,
+        _ => Mark::Promoted(number - 3),
     }
 }
 

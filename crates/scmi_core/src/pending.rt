@@ -5,7 +5,7 @@ ghost use Rattle.scmi_plan.specs.declared.limits.TheConstants.{PENDING_SETS};
 ghost use Rattle.scmi_plan.specs.declared.resource.Resource.TheVariants as resource;
 ghost use Rattle.scmi_plan.specs.declared.limits.TheConstants.{CLOCKS, DOMAINS};
 ghost use Rattle.scmi_plan.specs.declared.mask.TheConstants.{MASK_BITS};
-ghost use Rattle.scmi_core.specs.Pending.{has_room_beside, has_set_of, load_beside, sets_by, unwanted};
+ghost use Rattle.scmi_core.specs.Pending.{has_room_beside, has_set_of, load_beside, promoted, sets_by, unwanted};
 ghost use Rattle.scmi_core.specs.declared.outboxes.TheConstants.{OUTBOX_ROOM};
 
 use crate::outboxes::OUTBOX_ROOM;
@@ -14,8 +14,8 @@ use arrayvec::ArrayVec;
 use scmi_plan::{Load, MASK_BITS, PENDING_SETS, Resource, with_bit};
 use std::marker::Model;
 
-/// The sets that were accepted for later and are not complete, at most `PENDING_SETS`, in order of
-/// acceptance. They complete in that order.
+/// The sets that were accepted for later and are not complete, at most `PENDING_SETS`, in the order
+/// in which they complete: that of acceptance, but for those that were promoted.
 #[derive(Drop, Debug)]
 pub struct Pending {
     sets: ArrayVec<PendingSet, PENDING_SETS>,
@@ -51,6 +51,14 @@ impl Pending {
         self.sets.is_empty()
     }
 
+    /// How many sets are pending.
+    pub fn len(&self) -> usize
+        ensures count { result ≡ length self.now }
+        ensures few { result ≤ PENDING_SETS }
+    {
+        self.sets.len()
+    }
+
     /// Adds a set after the others.
     pub fn push(&mut self, set: PendingSet)
         requires { length self.old < PENDING_SETS }
@@ -71,6 +79,18 @@ impl Pending {
         sets.copy_within(1.., 0);
         let _last = self.sets.pop();
         first
+    }
+
+    /// Puts the set at a place, counted from 0, before the others, which stay in order.
+    pub fn promote(&mut self, place: usize)
+        requires { place < length self.old }
+        ensures { self.new ≡ promoted place self.old }
+    {
+        let sets = self.sets.as_mut_slice();
+        let set = sets[place];
+        // A `rotate_right` would do, and takes more code.
+        sets.copy_within(..place, 1);
+        sets[0] = set;
     }
 
     /// Becomes the same as others.
@@ -115,7 +135,7 @@ impl Pending {
         self.sets.as_slice().first().copied()
     }
 
-    /// The sets, in order of acceptance.
+    /// The sets, in the order in which they complete.
     pub fn as_slice(&self) -> &[PendingSet]
         ensures { result.now ≡ self.now }
     {

@@ -1,13 +1,15 @@
-//! What a platform is without the hardware's refusals and reports, and without restarts.
+//! What a platform is without the hardware's refusals and reports, restarts and promotions.
 ghost use Rattle.std.specs.Prelude.{◌++◌, ◌∷◌, [], List};
 ghost use Rattle.std.specs.List.{All};
-ghost use Rattle.scmi_core.specs.Plain.{HasPlainHistory, IsPlain};
+ghost use Rattle.scmi_plan.specs.Board.{Board};
+ghost use Rattle.scmi_core.specs.Plain.{EndsInOrder, HasPlainHistory, IsNoPromotion, IsPlain};
 ghost use Rattle.scmi_core.specs.Standing.{MovesOn, Standing, StandsAfter};
 ghost use Rattle.scmi_core.specs.declared.event.Event.{Event};
 
-/// Beside hardware that never refuses and reports nothing, and without restarts, a history has
-/// commands, advances and postings alone, and a platform is as such a history leaves it. It does
-/// nothing: its clauses are the laws.
+/// Beside hardware that never refuses and reports nothing, and without restarts and promotions, a
+/// history has commands, advances and postings alone, and a platform is as such a history leaves
+/// it. Whatever else it has, without promotions sets end in order of acceptance. It does nothing:
+/// its clauses are the laws.
 ///
 /// `Core` and `Platform` add one event with each call. It is plain if the call is `command`,
 /// `advance` or `sent`, or if it is `command_on` or `advance_on` and the hardware never refuses
@@ -18,6 +20,8 @@ pub fn every_plain_history()
     ensures start { (p : Standing) → StandsAfter p [] → HasPlainHistory p }
     ensures platform { (p k : Standing) (event : Event) → IsPlain event → MovesOn p event k
         → HasPlainHistory p → HasPlainHistory k }
+    ensures order { (board : Board) (h : List Event) → All IsNoPromotion h
+        → EndsInOrder board h }
 {
     // Nothing to do: the clauses hold of every history.
 }

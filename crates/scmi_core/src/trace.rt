@@ -1,10 +1,10 @@
 //! The events of a platform, in one order for all agents.
 ghost use Rattle.std.specs.Prelude.{◌≡◌, ◌<◌, ◌≤◌, ◌+◌, ◌++◌, ◌∷◌, [], ◌↔◌, length, slice_get, IsTrue, IsOk, OnOk, OnErr, ◌^◌, vec_len, vec_capacity};
 ghost use Rattle.scmi_codec.specs.declared.payload.TheConstants.{PAYLOAD_WORDS};
-ghost use Rattle.scmi_plan.specs.declared.limits.TheConstants.{AGENTS};
+ghost use Rattle.scmi_plan.specs.declared.limits.TheConstants.{AGENTS, PENDING_SETS};
 ghost use Rattle.scmi_core.specs.Mark.{HasAgent};
 ghost use Rattle.scmi_core.specs.Trace.{event_of, payload_count};
-ghost use Rattle.scmi_core.specs.declared.event.Event.TheVariants.{Command, Advance, Sent, CommandFailed, AdvanceFailed, Restarted, Reported};
+ghost use Rattle.scmi_core.specs.declared.event.Event.TheVariants.{Command, Advance, Sent, CommandFailed, AdvanceFailed, Restarted, Promoted, Reported};
 ghost use Rattle.scmi_codec.specs.declared.frame.Frame.TheVariants.{Good};
 
 use crate::event::Event;
@@ -169,6 +169,16 @@ impl Trace {
         ensures room { self.old.room ≤ self.new.room + 1 }
     {
         self.push(Mark::Restarted(agent), 0, 0, &[]);
+    }
+
+    /// Adds the promotion of the pending set at a place in the room that there is.
+    pub(crate) fn push_promoted(&mut self, place: u32)
+        requires room { 0 < self.old.room }
+        requires place { place < PENDING_SETS }
+        ensures events { self.new.events ≡ self.old.events ++ Promoted place ∷ [] }
+        ensures room { self.old.room ≤ self.new.room + 1 }
+    {
+        self.push(Mark::Promoted(place), 0, 0, &[]);
     }
 
     /// Adds the report of a change that the hardware made by itself in the room that there is.

@@ -248,6 +248,8 @@ tried-whole may g guesses completes fails acts board entries h
     acts act.Restart a (let one = can.follows.0 in omega (arith, one))
     board entries h _ refl guess can
 tried-whole may g guesses completes fails acts board entries h
+    (Move.happens (event.Promoted place)) guess can = absurd can.unseen
+tried-whole may g guesses completes fails acts board entries h
     (Move.happens (event.Reported effect)) guess can = absurd can.unseen
 tried-whole may g guesses completes fails acts board entries h (Move.asks k a f) guess can =
     absurd can.unseen

@@ -10,7 +10,7 @@ use Rattle.scmi_codec.specs.declared.message.Message.{Message}
 use Rattle.scmi_codec.specs.declared.frame.Frame.{Frame}
 use Rattle.scmi_codec.specs.declared.frame.Answer.{Answer}
 use Rattle.scmi_core.specs.declared.event.Event.{Event}
-use Rattle.scmi_core.specs.declared.event.Event.TheVariants.{Command, Advance, Sent, CommandFailed, AdvanceFailed, Restarted, Reported}
+use Rattle.scmi_core.specs.declared.event.Event.TheVariants.{Command, Advance, Sent, CommandFailed, AdvanceFailed, Restarted, Promoted, Reported}
 use Rattle.scmi_core.specs.Agents.{answer_for, answers_to, frame_from, frames_of}
 use Rattle.scmi_core.specs.History.{delivered_messages, outbox}
 use Rattle.scmi_core.specs.Legal.{IsLegal}
@@ -42,6 +42,7 @@ quiet may board entries h (Sent a) is = sent_to a
 quiet may board entries h (Command a f) is = absurd is
 quiet may board entries h (CommandFailed a f fault) is = absurd is
 quiet may board entries h (Restarted a) is = restarted a
+quiet may board entries h (Promoted place) is = absurd is
 quiet may board entries h (Reported effect) is = absurd is
 
 frames-more : (a : ℕ) (h : List Event) (e : Event) → frames_of a (h ++ e ∷ []) ≡ frames_of a h ++ cons_option (frame_from a e) []
@@ -245,6 +246,7 @@ module _ (may : Unseen) (board : Board) where
     one.0,
     delivered_kept board a h (Restarted b) (IsLegal-front board h (Restarted b) legal) refl ∙ one.1,
   )
+  posted-more entries h (Promoted place) legal is a one = absurd is
   posted-more entries h (Reported effect) legal is a one = absurd is
 
   -- a command that is executed posts nothing
@@ -329,6 +331,7 @@ no-restart may board entries h (Command a f) never is = absurd is
 no-restart may board entries h (CommandFailed a f fault) never is = absurd is
 no-restart may board entries h (Restarted a) never is =
     absurd (let same : false ≡ true = sym never ∙ is in cc)
+no-restart may board entries h (Promoted place) never is = absurd is
 no-restart may board entries h (Reported effect) never is = absurd is
 
 no-restart-answered : (board : Board) (h : List Event) (b : ℕ) (f : Frame) (e : Event) (x : Answer)

@@ -8,7 +8,7 @@ use Rattle.scmi_codec.specs.declared.frame.Frame.{Frame}
 use Rattle.scmi_codec.specs.declared.frame.Answer.{Answer}
 use Rattle.scmi_codec.specs.declared.message.Message.{Message}
 use Rattle.scmi_core.specs.declared.event.Event.{Event}
-use Rattle.scmi_core.specs.declared.event.Event.TheVariants.{Command, Advance, Sent, CommandFailed, AdvanceFailed, Restarted, Reported}
+use Rattle.scmi_core.specs.declared.event.Event.TheVariants.{Command, Advance, Sent, CommandFailed, AdvanceFailed, Restarted, Promoted, Reported}
 use Rattle.scmi_codec.specs.declared.fault.Fault.{Fault}
 use Rattle.scmi_codec.specs.declared.fault.Fault.TheVariants.{HardwareError}
 use Rattle.scmi_core.specs.declared.pending_set.PendingSet.{PendingSet}
@@ -62,6 +62,7 @@ IsUnseenEvent may board entries h (Sent a) = HasEmptyChannel board entries h a
 IsUnseenEvent may board entries h (Command a frame) = ⊥
 IsUnseenEvent may board entries h (CommandFailed a frame fault) = ⊥
 IsUnseenEvent may board entries h (Restarted a) = may.restarts ≡ true
+IsUnseenEvent may board entries h (Promoted place) = ⊥
 IsUnseenEvent may board entries h (Reported effect) = ⊥
 
 -- after a history this event is a command of agent a with the answer that it gets there, or one

@@ -1,7 +1,9 @@
 -- Lists of numbers that all differ.
-use Rattle.std.proofs.Common.{◌≢◌, ℕ, zero, suc, ◌<◌, ◌≤◌, List, [], ◌∷◌, ◌++◌, arith}
+use Rattle.std.proofs.Common.{◌≡◌, ◌≢◌, ◌⊎◌, inl, inr, ℕ, zero, suc, ◌+◌, ◌<◌, ◌≤◌, List, [], ◌∷◌, ◌++◌, take, drop, sym, ap, subst, arith}
 use Rattle.std.specs.List.{AllByRecursion, AllPairs, AllZip}
 use Rattle.std.proofs.lemmas.List.Elements.{All-from_recursion}
+use Rattle.scmi_core.specs.Pending.{promoted}
+use Rattle.scmi_core.proofs.Promotions.{IsFirst, promotion}
 
 -- each differs from all later ones
 abbrev pub Apart : List ℕ → Type 0
@@ -39,6 +41,29 @@ module _ (P : ℕ → Type 0) where
   each-front [] ms all = tt
   each-front (k ∷ ns) ms all = (all.0, each-front ns ms all.1)
 
+-- one moved to the front
+module _ (P : ℕ → Type 0) where
+  each-at : (before after : List ℕ) (n : ℕ) → AllByRecursion P (before ++ n ∷ after) → P n
+  each-at [] after n all = all.0
+  each-at (k ∷ ks) after n all = each-at ks after n all.1
+
+  each-moved : (ns before after : List ℕ) (n : ℕ)
+      → AllByRecursion P (ns ++ (before ++ n ∷ after))
+      → AllByRecursion P (ns ++ n ∷ (before ++ after))
+  each-moved [] before after n all = (each-at before after n all, each-remove P before after n all)
+  each-moved (k ∷ ns) before after n all = (all.0, each-moved ns before after n all.1)
+
+  pub each-promoted : (place : ℕ) (ns ms : List ℕ) → AllByRecursion P (ns ++ ms)
+      → AllByRecursion P (ns ++ promoted place ms)
+  each-promoted place ns ms all = by (promotion place ms)
+    where
+      by : (promoted place ms ≡ ms) ⊎ IsFirst place ms → AllByRecursion P (ns ++ promoted place ms)
+      by (inl same) = subst (λ it. AllByRecursion P (ns ++ it)) (sym same) all
+      by (inr is) =
+          subst (λ it. AllByRecursion P (ns ++ it)) (sym is.moved)
+          (each-moved ns is.before is.after is.it
+          (subst (λ it. AllByRecursion P (ns ++ it)) is.whole all))
+
 -- a number above all differs from all
 above-differs : (n : ℕ) (ns : List ℕ) → AllBelow n ns → AllByRecursion (λ m. n ≢ m) ns
 above-differs n [] all = tt
@@ -71,6 +96,32 @@ pub apart-front : (ns ms : List ℕ) → Apart (ns ++ ms) → Apart ns
 apart-front [] ms apart = tt
 apart-front (k ∷ ns) ms apart = (each-front (λ m. k ≢ m) ns ms apart.0, apart-front ns ms apart.1)
 
+-- one that is moved to the front differs from the others
+differs-from : (before after : List ℕ) (n : ℕ) → Apart (before ++ n ∷ after)
+    → AllByRecursion (λ m. n ≢ m) (before ++ after)
+differs-from [] after n apart = apart.0
+differs-from (k ∷ ks) after n apart = (
+  λ same. each-at (λ m. k ≢ m) ks after n apart.0 (sym same),
+  differs-from ks after n apart.1,
+)
+
+apart-moved : (ns before after : List ℕ) (n : ℕ) → Apart (ns ++ (before ++ n ∷ after))
+    → Apart (ns ++ n ∷ (before ++ after))
+apart-moved [] before after n apart =
+    (differs-from before after n apart, apart-remove before after n apart)
+apart-moved (k ∷ ns) before after n apart =
+    (each-moved (λ m. k ≢ m) ns before after n apart.0, apart-moved ns before after n apart.1)
+
+pub apart-promoted : (place : ℕ) (ns ms : List ℕ) → Apart (ns ++ ms)
+    → Apart (ns ++ promoted place ms)
+apart-promoted place ns ms apart = by (promotion place ms)
+  where
+    by : (promoted place ms ≡ ms) ⊎ IsFirst place ms → Apart (ns ++ promoted place ms)
+    by (inl same) = subst (λ it. Apart (ns ++ it)) (sym same) apart
+    by (inr is) =
+        subst (λ it. Apart (ns ++ it)) (sym is.moved)
+        (apart-moved ns is.before is.after is.it (subst (λ it. Apart (ns ++ it)) is.whole apart))
+
 -- the same by places
 pub all-pairs : (ns : List ℕ) → Apart ns → AllPairs (λ n m. n ≢ m) ns
 all-pairs [] apart i j d lt inside = absurd (omega arith)
@@ -97,3 +148,28 @@ module _ {A B : Type 0} (R : A → B → Type 0) where
   zip-weaker Q each (x ∷ xs) [] all = absurd all
   zip-weaker Q each (x ∷ xs) (y ∷ ys) all =
       (each x y all.0, zip-weaker Q each xs ys all.1)
+
+  zip-take : (n : ℕ) (xs : List A) (ys : List B) → AllZip R xs ys
+      → AllZip R (take n xs) (take n ys)
+  zip-take zero xs ys all = tt
+  zip-take (suc n) [] [] all = tt
+  zip-take (suc n) [] (y ∷ ys) all = absurd all
+  zip-take (suc n) (x ∷ xs) [] all = absurd all
+  zip-take (suc n) (x ∷ xs) (y ∷ ys) all = (all.0, zip-take n xs ys all.1)
+
+  zip-drop : (n : ℕ) (xs : List A) (ys : List B) → AllZip R xs ys
+      → AllZip R (drop n xs) (drop n ys)
+  zip-drop zero xs ys all = all
+  zip-drop (suc n) [] [] all = tt
+  zip-drop (suc n) [] (y ∷ ys) all = absurd all
+  zip-drop (suc n) (x ∷ xs) [] all = absurd all
+  zip-drop (suc n) (x ∷ xs) (y ∷ ys) all = zip-drop n xs ys all.1
+
+  pub zip-promoted : (place : ℕ) (xs : List A) (ys : List B) → AllZip R xs ys
+      → AllZip R (promoted place xs) (promoted place ys)
+  zip-promoted place xs ys all =
+      zip-append (take 1 (drop place xs)) (take place xs ++ drop (1 + place) xs)
+      (take 1 (drop place ys)) (take place ys ++ drop (1 + place) ys)
+      (zip-take 1 (drop place xs) (drop place ys) (zip-drop place xs ys all))
+      (zip-append (take place xs) (drop (1 + place) xs) (take place ys) (drop (1 + place) ys)
+      (zip-take place xs ys all) (zip-drop (1 + place) xs ys all))

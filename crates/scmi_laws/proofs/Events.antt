@@ -13,7 +13,7 @@ use Rattle.scmi_plan.specs.declared.effect.Effect.{Effect}
 use Rattle.scmi_plan.specs.declared.effect.Effect.TheVariants as effect
 use Rattle.scmi_core.specs.declared.event.Event.{Event}
 use Rattle.scmi_codec.specs.declared.fault.Fault.{Fault}
-use Rattle.scmi_core.specs.declared.event.Event.TheVariants.{Advance, AdvanceFailed, CommandFailed, Reported, Restarted, Sent}
+use Rattle.scmi_core.specs.declared.event.Event.TheVariants.{Advance, AdvanceFailed, CommandFailed, Promoted, Reported, Restarted, Sent}
 use Rattle.scmi_core.specs.declared.outboxes.TheConstants.{OUTBOX_ROOM}
 use Rattle.scmi_core.specs.declared.pending_set.PendingSet.{PendingSet}
 use Rattle.scmi_core.specs.declared.pending_set.Setting.{Setting}
@@ -23,14 +23,15 @@ use Rattle.scmi_core.specs.Deed.{Deed}
 use Rattle.scmi_core.specs.Laws.{is_refused}
 use Rattle.scmi_core.specs.Legal.{IsLegal}
 use Rattle.scmi_core.specs.Outbox.{failed_response_for, made_in, notice_in, response_for}
-use Rattle.scmi_core.specs.Pending.{has_set_of, is_set_by, sets_by, unwanted}
+use Rattle.scmi_core.specs.Pending.{has_set_of, is_set_by, promoted as put_first, sets_by, unwanted}
 use Rattle.scmi_core.specs.Situation.{Situation}
 use Rattle.scmi_core.specs.Value.{Change, change_reported, completion, set_to_change}
 use Rattle.scmi_core.proofs.Following.{next}
 use Rattle.scmi_core.proofs.Isolation.{answers-push, refused}
 use Rattle.scmi_core.proofs.Legal.{IsLegal-front, IsLegal-last}
+use Rattle.scmi_core.proofs.Promotions.{promoted-any, promoted-by, promoted-length}
 use Rattle.scmi_core.proofs.Situations.{nothing-made}
-use Rattle.scmi_laws.specs.Others.{IsUnanswered, SeesCompletion, SeesFailure, SeesReport, SeesRestart, AreSeenAlike, situation_of, value_with}
+use Rattle.scmi_laws.specs.Others.{IsUnanswered, SeesCompletion, SeesFailure, SeesPromotion, SeesReport, SeesRestart, AreSeenAlike, situation_of, value_with}
 use Rattle.scmi_laws.proofs.Added.{situation-more, unsuccessful}
 use Rattle.scmi_laws.proofs.Reaching.{HasAtMostOne, notices, notified}
 
@@ -223,6 +224,50 @@ restarted board h a b legal differ =
     record {
       moved = is;
       alike = subst (AreSeenAlike board b s) (sym is) (seen-alike board a b s differ);
+    }
+
+-- A PROMOTION
+
+module _ (board : Board) (place b : ℕ) (s : Situation) where
+  abbrev ordered : List PendingSet
+  ordered = put_first place s.pending
+
+  abbrev promoted_to : Situation
+  promoted_to = record s { pending = ordered }
+
+  promoted-alike : AreSeenAlike board b s promoted_to
+  promoted-alike = record {
+    value = λ x. refl;
+    allowed = λ device scope. refl;
+    busy = λ r. sym (promoted-any (λ p. is_set_by r p.setting) place s.pending);
+    room = λ i.
+        let own = sym (promoted-by b place s.pending) i in
+        nat_lt (sym (promoted-length place s.pending) i) PENDING_SETS
+        && (nat_lt own (channel_of board b).share && nat_lt (length s.outbox + own) OUTBOX_ROOM);
+  }
+
+  unmade : (next board b s (ended (Promoted place))).outbox ≡ s.outbox
+  unmade = (λ i. s.outbox ++ nothing-made b s (ordered ++ []) i) ∙ append-nil s.outbox
+
+  promotes : next board b s (ended (Promoted place)) ≡ promoted_to
+  promotes = λ i.
+      record {
+        value = s.value;
+        allowed = s.allowed;
+        subscribed = s.subscribed;
+        pending = append-nil ordered i;
+        outbox = unmade i;
+      }
+
+pub promoted : (board : Board) (h : List Event) (place b : ℕ) → IsLegal board h
+    → SeesPromotion board place b (situation_of board b h)
+    (situation_of board b (h ++ Promoted place ∷ []))
+promoted board h place b legal =
+    let s = situation_of board b h in
+    let is = situation-more board h (Promoted place) legal b ∙ promotes board place b s in
+    record {
+      moved = is;
+      alike = subst (AreSeenAlike board b s) (sym is) (promoted-alike board place b s);
     }
 
 -- A REPORT OF THE HARDWARE

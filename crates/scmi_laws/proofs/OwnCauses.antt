@@ -10,14 +10,14 @@ use Rattle.scmi_plan.specs.Agent.{IsAgent}
 use Rattle.scmi_plan.specs.Board.{Board}
 use Rattle.scmi_plan.specs.declared.effect.Effect.{Effect}
 use Rattle.scmi_core.specs.declared.event.Event.{Event}
-use Rattle.scmi_core.specs.declared.event.Event.TheVariants.{Command, Advance, Sent, CommandFailed, AdvanceFailed, Restarted, Reported}
+use Rattle.scmi_core.specs.declared.event.Event.TheVariants.{Command, Advance, Sent, CommandFailed, AdvanceFailed, Restarted, Promoted, Reported}
 use Rattle.scmi_core.specs.declared.pending_set.PendingSet.{PendingSet}
 use Rattle.scmi_core.specs.Deed.{Deed, Success, fold_with_prefix, success_at, success_of}
 use Rattle.scmi_core.specs.History.{deed_after, deeds}
 use Rattle.scmi_core.specs.Laws.{change_asked, may_after}
 use Rattle.scmi_core.specs.Legal.{CanFollow, IsLegal}
 use Rattle.scmi_core.specs.Outbox.{situation_after}
-use Rattle.scmi_core.specs.Pending.{acceptance, pending_sets, unwanted}
+use Rattle.scmi_core.specs.Pending.{acceptance, pending_sets, promoted, unwanted}
 use Rattle.scmi_core.specs.ReadCommand.{command_on}
 use Rattle.scmi_core.specs.Reply.{fits_channel, reply_words}
 use Rattle.scmi_core.specs.Value.{Change, change_now, change_reported, changes, completion}
@@ -26,7 +26,7 @@ use Rattle.scmi_core.proofs.Following.{change_in, pending_next}
 use Rattle.scmi_core.proofs.Legal.{Grown, IsLegal-front, IsLegal-last, empty, grow, grown}
 use Rattle.scmi_laws.specs.Causes.{CameOf, HasOwnCauses}
 use Rattle.scmi_laws.proofs.Added.{changed-more, pending-more}
-use Rattle.scmi_laws.proofs.Apart.{AllBelow, Apart, all-pairs, apart-front, apart-insert, apart-push, apart-remove, below-more, each-insert, each-push, each-remove, zip-append, zip-weaker}
+use Rattle.scmi_laws.proofs.Apart.{AllBelow, Apart, all-pairs, apart-front, apart-insert, apart-promoted, apart-push, apart-remove, below-more, each-insert, each-promoted, each-push, each-remove, zip-append, zip-promoted, zip-weaker}
 
 -- A SUCCESS CHANGES AT ONCE OR IS ACCEPTED FOR LATER, NEVER BOTH
 
@@ -209,6 +209,19 @@ module _ (board : Board) (h : List Event) (cs : List Change) where
       by (n ∷ ns) [] all = absurd all
       by (n ∷ ns) (p ∷ ps) all = (all.0, by ns ps all.1)
 
+  -- a set that is promoted takes its event along
+  went_first : (place : ℕ) (ps : List PendingSet) → HasPlaces board h cs ps
+      → HasPlaces board h cs (promoted place ps)
+  went_first place ps had = record {
+    places = had.places;
+    waiting = promoted place had.waiting;
+    changed = had.changed;
+    pending =
+        zip-promoted (λ n p. CameOf board h n (completion p)) place had.waiting ps had.pending;
+    apart = apart-promoted place had.places had.waiting had.apart;
+    below = each-promoted (λ k. k < length h) place had.places had.waiting had.below;
+  }
+
 -- one event more
 module _ (board : Board) (h : List Event) (e : Event) (cs : List Change) (ps : List PendingSet)
     (had : HasPlaces board h cs ps) where
@@ -354,6 +367,13 @@ module _ (board : Board) (h : List Event) (legal : IsLegal board h) (had : IsPla
       (subst (λ it. HasPlaces board h' it (left ++ [])) (sym (append-nil cs))
       (subst (λ it. HasPlaces board h' cs it) (sym (append-nil left))
       (restarted board h' cs a ps (kept board h (Restarted a) cs ps had))))
+  placed (Promoted place) follows =
+      let h' = h ++ Promoted place ∷ [] in
+      let left = promoted place ps in
+      onward (Promoted place)
+      (subst (λ it. HasPlaces board h' it (left ++ [])) (sym (append-nil cs))
+      (subst (λ it. HasPlaces board h' cs it) (sym (append-nil left))
+      (went_first board h' cs place ps (kept board h (Promoted place) cs ps had))))
   placed (Reported effect) follows =
       let e = Reported effect in
       onward e

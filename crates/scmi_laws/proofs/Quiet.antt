@@ -16,23 +16,23 @@ use Rattle.scmi_codec.specs.declared.frame.Frame.TheVariants.{Good, Malformed}
 use Rattle.scmi_plan.specs.Board.{Board}
 use Rattle.scmi_plan.specs.declared.scope.Scope.{Scope}
 use Rattle.scmi_core.specs.declared.event.Event.{Event}
-use Rattle.scmi_core.specs.declared.event.Event.TheVariants.{Command, Advance, Sent, CommandFailed, AdvanceFailed, Restarted, Reported}
+use Rattle.scmi_core.specs.declared.event.Event.TheVariants.{Command, Advance, Sent, CommandFailed, AdvanceFailed, Restarted, Promoted, Reported}
 use Rattle.scmi_core.specs.declared.pending_set.PendingSet.{PendingSet}
 use Rattle.scmi_core.specs.Agents.{answer_for, frame_from, frames_of}
-use Rattle.scmi_core.specs.Deed.{Deed, Success, fold_with_prefix, restarted_by, success_with}
+use Rattle.scmi_core.specs.Deed.{Deed, Success, fold_with_prefix, promoted_by, restarted_by, success_with}
 use Rattle.scmi_core.specs.Effect.{effect_of}
 use Rattle.scmi_core.specs.History.{deed_after, deeds, delivered_messages, made_for, outbox}
 use Rattle.scmi_core.specs.Laws.{AreAlikeBut}
 use Rattle.scmi_core.specs.Legal.{CanFollow, IsLegal}
 use Rattle.scmi_core.specs.Outbox.{failed_response_for, is_restart_of, is_sent_by, made_in, messages_left, messages_made, sent_count}
-use Rattle.scmi_core.specs.Pending.{acceptance, is_advance, pending_sets}
+use Rattle.scmi_core.specs.Pending.{acceptance, is_advance, pending_left, pending_sets}
 use Rattle.scmi_core.specs.Permissions.{permission_in}
 use Rattle.scmi_core.specs.ReadCommand.{command_on}
 use Rattle.scmi_core.specs.Reply.{answer_in}
 use Rattle.scmi_core.specs.Situation.{Situation}
 use Rattle.scmi_core.specs.Subscriptions.{subscription, subscription_after_reset}
 use Rattle.scmi_core.specs.Value.{change_now, change_of, changes, fault_in, reported, value_in}
-use Rattle.scmi_core.proofs.Deeds.{IsLegal-push, added_success, fold_with_prefix-push, pending_left}
+use Rattle.scmi_core.proofs.Deeds.{IsLegal-push, added_success, fold_with_prefix-push}
 use Rattle.scmi_core.proofs.Following.{change-is, change_in, completed_in, deed-same, failed_in, made_next, next, pending_next}
 use Rattle.scmi_core.proofs.Isolation.{answers-push, refused}
 use Rattle.scmi_core.proofs.Laws.{answers_other, delivered_kept, frames_other}
@@ -74,7 +74,7 @@ module _ (board : Board) (b : ℕ) (s : Situation) (deed : Deed) (c : ℕ) (fram
       let no-set = unsaid board (acceptance board) (λ it silent. silent.set) success nothing in
       (λ i.
       if is_advance (event i) then drop 1 s.pending
-      else pending_left (restarted_by (event i)) s.pending ++ option_to_list (no-set i))
+      else pending_left (restarted_by (event i)) (promoted_by (event i)) s.pending ++ option_to_list (no-set i))
       ∙ append-nil s.pending
 
   nothing-next : made_next board b s deed ≡ []
@@ -185,6 +185,7 @@ read board h a Advance legal is = absurd (cc)
 read board h a (AdvanceFailed fault) legal is = absurd (cc)
 read board h a (Sent c) legal is = absurd (cc)
 read board h a (Restarted c) legal is = absurd (cc)
+read board h a (Promoted place) legal is = absurd (cc)
 read board h a (Reported effect) legal is = absurd (cc)
 
 -- THE SAME EVENT AFTER TWO HISTORIES
@@ -207,6 +208,7 @@ module _ (board : Board) (h k : List Event)
   one-answer b (AdvanceFailed fault) = refl
   one-answer b (Sent c) = refl
   one-answer b (Restarted c) = refl
+  one-answer b (Promoted place) = refl
   one-answer b (Reported effect) = refl
 
   both-follow : (e : Event) → CanFollow board k e → CanFollow board h e
@@ -223,6 +225,8 @@ module _ (board : Board) (h k : List Event)
   both-follow Advance follows = subst (λ s. 0 < length s.pending) (sym (same 0)) follows
   both-follow (AdvanceFailed fault) follows =
       subst (λ s. 0 < length s.pending) (sym (same 0)) follows
+  both-follow (Promoted place) follows =
+      subst (λ s. place < length s.pending) (sym (same 0)) follows
   both-follow (Sent c) follows =
       (follows.0, follows.1, subst (λ s. 0 < length s.outbox) (sym (same c)) follows.2)
 

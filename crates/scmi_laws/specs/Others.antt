@@ -13,7 +13,7 @@ use Rattle.scmi_core.specs.Agents.{answers_to}
 use Rattle.scmi_core.specs.History.{deeds}
 use Rattle.scmi_core.specs.Laws.{may_after}
 use Rattle.scmi_core.specs.Outbox.{failed_response_for, made_in, response_for, situation_after, state_changed}
-use Rattle.scmi_core.specs.Pending.{has_set_of, unwanted}
+use Rattle.scmi_core.specs.Pending.{has_set_of, promoted, unwanted}
 use Rattle.scmi_core.specs.Situation.{Situation, has_room}
 use Rattle.scmi_core.specs.Value.{Change, State, Thing, change_reported, completion, value_in}
 
@@ -113,6 +113,14 @@ pub record SeesFailure (b : ℕ) (fault : Fault) (s t : Situation) : Type 0 wher
 pub record SeesRestart (board : Board) (a b : ℕ) (s t : Situation) : Type 0 where
   -- no more than that agent a wants no delayed response to its pending sets
   pub moved : t ≡ record s { pending = map (unwanted a) s.pending }
+  -- on which no answer depends
+  pub alike : AreSeenAlike board b s t
+
+-- the pending set at a place goes before the others, as agent b in situation s sees it, which is
+-- then t
+pub record SeesPromotion (board : Board) (place b : ℕ) (s t : Situation) : Type 0 where
+  -- no more than another order of the pending sets
+  pub moved : t ≡ record s { pending = promoted place s.pending }
   -- on which no answer depends
   pub alike : AreSeenAlike board b s t
 

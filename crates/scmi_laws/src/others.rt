@@ -6,8 +6,8 @@ ghost use Rattle.scmi_core.specs.Legal.{IsLegal};
 ghost use Rattle.scmi_plan.specs.declared.effect.Effect.{Effect};
 ghost use Rattle.scmi_core.specs.declared.event.Event.{Event};
 ghost use Rattle.scmi_codec.specs.declared.fault.Fault.{Fault};
-ghost use Rattle.scmi_core.specs.declared.event.Event.TheVariants.{Advance, AdvanceFailed, Command, CommandFailed, Reported, Restarted, Sent};
-ghost use Rattle.scmi_laws.specs.Others.{IsUnanswered, Reaches, SeesCompletion, SeesFailure, SeesReport, SeesRestart, SeesTheSame, situation_of};
+ghost use Rattle.scmi_core.specs.declared.event.Event.TheVariants.{Advance, AdvanceFailed, Command, CommandFailed, Promoted, Reported, Restarted, Sent};
+ghost use Rattle.scmi_laws.specs.Others.{IsUnanswered, Reaches, SeesCompletion, SeesFailure, SeesPromotion, SeesReport, SeesRestart, SeesTheSame, situation_of};
 ghost use Rattle.scmi_plan.specs.Board.{Board};
 
 /// All that one agent's command is to another agent, in every legal history of every board, whoever
@@ -35,9 +35,10 @@ pub fn every_other_agent()
 /// value, and makes no more than that response, which has the status of the fault. A posting to
 /// another agent, and a command that failed, whoever asked it and whatever the fault, leave an
 /// agent's situation as it was. A restart of another agent ends no set: it only drops that agent's
-/// wish for delayed responses, on which no answer depends. A report of the hardware gives one
-/// value, leaves permissions, requests and pending sets, answers nobody, and makes no more than one
-/// notification, with the platform, 0, as causer.
+/// wish for delayed responses, on which no answer depends. A promotion only changes the order of the
+/// pending sets, on which no answer depends either. A report of the hardware gives one value, leaves
+/// permissions, requests and pending sets, answers nobody, and makes no more than one notification,
+/// with the platform, 0, as causer.
 pub fn every_event()
     ensures advance { (board : Board) (h : List Event) (b : ℕ)
         → IsLegal board (h ++ Advance ∷ [])
@@ -54,6 +55,9 @@ pub fn every_event()
     ensures restarted { (board : Board) (h : List Event) (a b : ℕ) → IsLegal board h → a ≢ b
         → SeesRestart board a b (situation_of board b h)
         (situation_of board b (h ++ Restarted a ∷ [])) }
+    ensures promoted { (board : Board) (h : List Event) (place b : ℕ) → IsLegal board h
+        → SeesPromotion board place b (situation_of board b h)
+        (situation_of board b (h ++ Promoted place ∷ [])) }
     ensures reported { (board : Board) (h : List Event) (effect : Effect) (b : ℕ)
         → IsLegal board h → SeesReport b effect (situation_of board b h)
         (situation_of board b (h ++ Reported effect ∷ [])) }

@@ -1,5 +1,5 @@
 -- The tests of a board's rules decide what a valid board is.
-use Rattle.std.proofs.Common.{◌≡◌, ◌⊎◌, inl, inr, ◌↔◌, ℕ, zero, suc, ◌+◌, ◌-◌, ◌*◌, ◌/◌, ◌%◌, ◌^◌, ◌<◌, ◌≤◌, ◌==◌, nat_le, nat_lt, Bool, true, false, not, ◌&&◌, if◌then◌else◌, List, [], ◌∷◌, length, map, get_or, replicate, Option, Some, None, refl, sym, ap, subst, ◌∙◌, arith, Decides, Contains, mod-lt, string_bytes}
+use Rattle.std.proofs.Common.{◌≡◌, ◌⊎◌, inl, inr, ◌↔◌, ℕ, zero, suc, ◌+◌, ◌-◌, ◌*◌, ◌/◌, ◌%◌, ◌^◌, ◌<◌, ◌≤◌, ◌==◌, nat_le, nat_lt, Bool, true, false, not, ◌&&◌, ◌||◌, if◌then◌else◌, List, [], ◌∷◌, length, map, get_or, replicate, Option, Some, None, refl, sym, ap, subst, ◌∙◌, arith, Decides, Contains, mod-lt, string_bytes}
 use Rattle.std.specs.List.{All, list_all, list_any, range_with_len, IsAllAdjacentAnswer}
 use Rattle.std.specs.List.Sorted.{IsStrictlyIncreasing}
 use Rattle.std.proofs.lemmas.Bool.Decides.{leb_tells, Decides-eqb, Decides-ltb, Decides-and, Decides-like, Decides-by_and, Decides-by_or}
@@ -8,14 +8,14 @@ use Rattle.std.proofs.lemmas.List.Elements.{All-from_get_or, All-replicate}
 use Rattle.std.proofs.lemmas.List.FromFn.{length-map-range_with_len, get_or-map-range_with_len}
 use Rattle.std.proofs.lemmas.Nat.{div-add-mod', le-div}
 use Rattle.std.proofs.Math.Nat.{mul-mod_left, zero-mul, le-div_iff_mul-le}
-use Rattle.scmi_codec.specs.Name.{IsName}
+use Rattle.scmi_codec.specs.Name.{IsLooseName, IsName}
 use Rattle.scmi_codec.specs.declared.name.TheConstants.{NAME_BYTES}
-use Rattle.scmi_plan.specs.Board.{Board, IsChannel, own_protocols, whole_channel}
+use Rattle.scmi_plan.specs.Board.{Board, IsChannel, IsNameIf, IsNameOf, own_protocols, whole_channel}
 use Rattle.scmi_plan.specs.BoardRows.{AreRows, HasNames, board_of_rows}
 use Rattle.scmi_plan.specs.Plan.{IsValid}
 use Rattle.scmi_plan.specs.Protocols.{AreProtocols}
 use Rattle.scmi_plan.specs.Rates.{SupportedRates, HasValidRates, IsSupported}
-use Rattle.scmi_plan.specs.PlanError.{is_name, rises, is_valid_list, is_valid, supports, has_valid_counts, has_valid_names, has_valid_clocks, has_valid_devices, has_trusted_agent, first_fault}
+use Rattle.scmi_plan.specs.PlanError.{is_loose_name, is_name, is_name_of, rises, is_valid_list, is_valid, supports, has_valid_counts, has_valid_names, has_valid_clocks, has_valid_devices, has_trusted_agent, first_fault}
 use Rattle.scmi_plan.specs.RawPlan.{asked_board, asked_domain, asked_clock}
 use Rattle.scmi_plan.specs.declared.limits.TheConstants.{AGENTS, DOMAINS, CLOCKS, DEVICES, RATES}
 use Rattle.scmi_plan.specs.declared.board_rows.BoardRows.TheInside.{Inside}
@@ -48,6 +48,19 @@ Decides-is_name bytes =
     (Decides-and _ _ (Decides-and _ _ (Decides-leb 1 (length bytes)) (Decides-leb (length bytes) NAME_BYTES))
     (Decides-list_all (λ byte. nat_le 0x21 byte && nat_le byte 0x7E) (λ byte. (0x21 ≤ byte) × (byte ≤ 0x7E))
     (λ byte. Decides-and _ _ (Decides-leb 0x21 byte) (Decides-leb byte 0x7E)) bytes))
+
+Decides-is_loose_name : (bytes : List ℕ) → Decides (is_loose_name bytes) (IsLooseName bytes)
+Decides-is_loose_name bytes =
+    Decides-like (is_loose_name bytes) (λ w. record { few = w.0; text = w.1 }) (λ name. (name.few, name.text))
+    (Decides-and _ _ (Decides-leb (length bytes) NAME_BYTES)
+    (Decides-list_all (λ byte. nat_le 0x20 byte && nat_le byte 0x7E) (λ byte. (0x20 ≤ byte) × (byte ≤ 0x7E))
+    (λ byte. Decides-and _ _ (Decides-leb 0x20 byte) (Decides-leb byte 0x7E)) bytes))
+
+Decides-is_name_of : (board : Board) (bytes : List ℕ) → Decides (is_name_of board bytes) (IsNameOf board bytes)
+Decides-is_name_of board bytes = by board.loose where
+  by : (loose : Bool) → Decides (if loose then is_loose_name bytes else is_name bytes) (IsNameIf loose bytes)
+  by true = Decides-is_loose_name bytes
+  by false = Decides-is_name bytes
 
 pub Decides-rises : (xs : List ℕ) → Decides (rises xs) (IsStrictlyIncreasing xs)
 Decides-rises [] = (λ _ k h. absurd (omega (arith, h)), λ _. refl)
@@ -133,8 +146,15 @@ Decides-supports : (r : SupportedRates) (rate : ℕ) → HasValidRates r → Dec
 Decides-supports (rates.list list) rate valid = Decides-is_in list rate
 Decides-supports (rates.steps low high step) rate valid = Decides-is_step low high step rate valid.0 valid.1
 
-Decides-clock : (clock : Clock) → Decides (is_valid clock.rates && supports clock.rates clock.rate) (HasValidRates clock.rates × IsSupported clock.rates clock.rate)
-Decides-clock clock = Decides-then _ _ (Decides-is_valid clock.rates) (λ valid. Decides-supports clock.rates clock.rate valid)
+Decides-unless : {P : Type 0} (loose x : Bool) → Decides x P → Decides (loose || x) (loose ≡ false → P)
+Decides-unless true x d = (λ _ no. absurd (cc), λ _. refl)
+Decides-unless false x d = (λ h _. d.0 h, λ w. d.1 (w refl))
+
+Decides-clock : (loose : Bool) (clock : Clock) → Decides (is_valid clock.rates && (loose || supports clock.rates clock.rate))
+    (HasValidRates clock.rates × (loose ≡ false → IsSupported clock.rates clock.rate))
+Decides-clock loose clock =
+    Decides-then _ _ (Decides-is_valid clock.rates)
+    (λ valid. Decides-unless loose (supports clock.rates clock.rate) (Decides-supports clock.rates clock.rate valid))
 
 -- what `is_sorted_by` answers for "is below the next"
 pub Decides-below_next : (r : Bool) (xs : List ℕ) → IsAllAdjacentAnswer (λ x y b. b ≡ nat_lt x y) xs r → Decides r (IsStrictlyIncreasing xs)
@@ -152,17 +172,18 @@ module _ (board : Board) where
       (Decides-leb (length board.domains) DOMAINS)) (Decides-leb (length board.clocks) CLOCKS)) (Decides-leb (length board.devices) DEVICES)
 
   Decides-names : Decides (has_valid_names board)
-      ((((IsName board.vendor × IsName board.sub_vendor) × All IsName board.agents) × All (λ domain. IsName domain.name) board.domains) × All (λ clock. IsName clock.name) board.clocks)
+      ((((IsNameOf board board.vendor × IsNameOf board board.sub_vendor) × All (λ agent. IsNameOf board agent) board.agents)
+      × All (λ domain. IsNameOf board domain.name) board.domains) × All (λ clock. IsNameOf board clock.name) board.clocks)
   Decides-names =
-      Decides-and _ _ (Decides-and _ _ (Decides-and _ _ (Decides-and _ _ (Decides-is_name board.vendor) (Decides-is_name board.sub_vendor))
-      (Decides-list_all is_name IsName Decides-is_name board.agents))
-      (Decides-list_all (λ domain. is_name domain.name) (λ domain. IsName domain.name) (λ domain. Decides-is_name domain.name) board.domains))
-      (Decides-list_all (λ clock. is_name clock.name) (λ clock. IsName clock.name) (λ clock. Decides-is_name clock.name) board.clocks)
+      Decides-and _ _ (Decides-and _ _ (Decides-and _ _ (Decides-and _ _ (Decides-is_name_of board board.vendor) (Decides-is_name_of board board.sub_vendor))
+      (Decides-list_all (λ agent. is_name_of board agent) (λ agent. IsNameOf board agent) (Decides-is_name_of board) board.agents))
+      (Decides-list_all (λ domain. is_name_of board domain.name) (λ domain. IsNameOf board domain.name) (λ domain. Decides-is_name_of board domain.name) board.domains))
+      (Decides-list_all (λ clock. is_name_of board clock.name) (λ clock. IsNameOf board clock.name) (λ clock. Decides-is_name_of board clock.name) board.clocks)
 
-  Decides-clocks : Decides (has_valid_clocks board) (All (λ clock. HasValidRates clock.rates × IsSupported clock.rates clock.rate) board.clocks)
+  Decides-clocks : Decides (has_valid_clocks board) (All (λ clock. HasValidRates clock.rates × (board.loose ≡ false → IsSupported clock.rates clock.rate)) board.clocks)
   Decides-clocks =
-      Decides-list_all (λ clock. is_valid clock.rates && supports clock.rates clock.rate)
-      (λ clock. HasValidRates clock.rates × IsSupported clock.rates clock.rate) Decides-clock board.clocks
+      Decides-list_all (λ clock. is_valid clock.rates && (board.loose || supports clock.rates clock.rate))
+      (λ clock. HasValidRates clock.rates × (board.loose ≡ false → IsSupported clock.rates clock.rate)) (Decides-clock board.loose) board.clocks
 
   Decides-devices : Decides (has_valid_devices board) (All IsWithin board.devices)
   Decides-devices =
@@ -205,11 +226,11 @@ module _ (board : Board) where
             (
               (((((law.an_agent, law.few_agents), law.few_domains), law.few_clocks), law.few_devices)),
               (
-                (((law.vendor, law.sub_vendor), law.agent_names), All-from_get_or (λ domain. IsName domain.name) board.domains _ law.domain_names),
-                All-from_get_or (λ clock. IsName clock.name) board.clocks _ law.clock_names,
+                (((law.vendor, law.sub_vendor), law.agent_names), All-from_get_or (λ domain. IsNameOf board domain.name) board.domains _ law.domain_names),
+                All-from_get_or (λ clock. IsNameOf board clock.name) board.clocks _ law.clock_names,
               ),
             ),
-            All-from_get_or (λ clock. HasValidRates clock.rates × IsSupported clock.rates clock.rate) board.clocks _ (λ c small. (law.valid_rates c small, law.supported c small)),
+            All-from_get_or (λ clock. HasValidRates clock.rates × (board.loose ≡ false → IsSupported clock.rates clock.rate)) board.clocks _ (λ c small. (law.valid_rates c small, law.supported c small)),
           ),
           All-from_get_or IsWithin board.devices _ (λ d small. (law.known_domains d small, law.known_clocks d small)),
         ),
@@ -320,8 +341,8 @@ names_of_valid board law = record {
   vendor = law.vendor;
   sub_vendor = law.sub_vendor;
   agents = law.agent_names;
-  domains = All-from_get_or (λ domain. IsName domain.name) board.domains _ law.domain_names;
-  clocks = All-from_get_or (λ clock. IsName clock.name) board.clocks _ law.clock_names;
+  domains = All-from_get_or (λ domain. IsNameOf board domain.name) board.domains _ law.domain_names;
+  clocks = All-from_get_or (λ clock. IsNameOf board clock.name) board.clocks _ law.clock_names;
 }
 
 -- a set has only members below a count where nothing is left above it

@@ -1,7 +1,8 @@
 -- The board that a platform controller serves, and what a device holds.
-use Rattle.std.specs.Prelude.{ℕ, ◌≡◌, ◌<◌, ◌≤◌, ◌-◌, ◌==◌, ◌&&◌, ◌*◌, ◌%◌, ◌^◌, nat_lt, Bool, false, List, [], ◌∷◌, length, get_or, set, replicate, bit_or}
+use Rattle.std.specs.Prelude.{ℕ, ◌≡◌, ◌<◌, ◌≤◌, ◌-◌, ◌==◌, ◌&&◌, ◌*◌, ◌%◌, ◌^◌, nat_lt, Bool, true, false, List, [], ◌∷◌, length, get_or, set, replicate, bit_or}
 use Rattle.std.specs.Int.{bit_at}
 use Rattle.std.specs.List.{list_any}
+use Rattle.scmi_codec.specs.Name.{IsLooseName, IsName}
 use Rattle.scmi_codec.specs.declared.payload.TheConstants.{PAYLOAD_WORDS}
 use Rattle.scmi_plan.specs.declared.agent_channel.AgentChannel.{AgentChannel}
 use Rattle.scmi_plan.specs.declared.agent_channel.TheConstants.{LEAST_CHANNEL_WORDS}
@@ -38,6 +39,17 @@ pub record Board : Type 0 where
   pub free : ℕ
   -- the ids of the protocols besides the base protocol, rising
   pub protocols : List ℕ
+  -- whether names may be empty and have spaces, and a clock may start at a rate that is none of its own
+  pub loose : Bool
+
+-- what a name may be, with and without this freedom (own)
+abbrev pub IsNameIf : (loose : Bool) → List ℕ → Type 0
+IsNameIf true name = IsLooseName name
+IsNameIf false name = IsName name
+
+-- what a name of the board may be
+abbrev pub IsNameOf : Board → List ℕ → Type 0
+IsNameOf board name = IsNameIf board.loose name
 
 -- the channels of an agent of whom nothing else is said: 64 words of payload, both ways, and all
 -- pending sets may be the agent's (own)

@@ -1,8 +1,7 @@
 -- The board of rows with valid names.
 use Rattle.std.specs.Prelude.{◌≡◌, true, replicate}
 use Rattle.std.specs.List.{All}
-use Rattle.scmi_codec.specs.Name.{IsName}
-use Rattle.scmi_plan.specs.Board.{Board, nothing_denied, nothing_held, own_protocols, whole_channel}
+use Rattle.scmi_plan.specs.Board.{Board, IsNameOf, nothing_denied, nothing_held, own_protocols, whole_channel}
 use Rattle.scmi_plan.specs.PlanError.{has_valid_counts}
 use Rattle.scmi_plan.specs.declared.board_rows.BoardRows.TheInside.{Inside}
 use Rattle.scmi_plan.specs.declared.limits.TheConstants.{AGENTS}
@@ -26,15 +25,16 @@ board_of_rows rows =
       absent = nothing_held;
       free = 0;
       protocols = own_protocols;
+      loose = rows.loose;
     }
 
--- each name of a board is one
+-- each name of a board is one that it may have
 pub record HasNames (board : Board) : Type 0 where
-  pub vendor : IsName board.vendor
-  pub sub_vendor : IsName board.sub_vendor
-  pub agents : All IsName board.agents
-  pub domains : All (λ domain. IsName domain.name) board.domains
-  pub clocks : All (λ clock. IsName clock.name) board.clocks
+  pub vendor : IsNameOf board board.vendor
+  pub sub_vendor : IsNameOf board board.sub_vendor
+  pub agents : All (λ agent. IsNameOf board agent) board.agents
+  pub domains : All (λ domain. IsNameOf board domain.name) board.domains
+  pub clocks : All (λ clock. IsNameOf board clock.name) board.clocks
 
 -- what rows keep: the board has a valid number of each kind, and each of its names is one
 abbrev pub AreRows : Inside → Type 0

@@ -1,8 +1,7 @@
 -- A valid board, and what a plan holds of one.
-use Rattle.std.specs.Prelude.{ℕ, ◌<◌, ◌≤◌, ◌^◌, ◌≡◌, List, length, get_or}
+use Rattle.std.specs.Prelude.{ℕ, ◌<◌, ◌≤◌, ◌^◌, ◌≡◌, false, List, length, get_or}
 use Rattle.std.specs.List.{All}
-use Rattle.scmi_codec.specs.Name.{IsName}
-use Rattle.scmi_plan.specs.Board.{Board, IsChannel, AreHolders, domain_at, clock_at, device_at, serves}
+use Rattle.scmi_plan.specs.Board.{Board, IsChannel, IsNameOf, AreHolders, domain_at, clock_at, device_at, serves}
 use Rattle.scmi_plan.specs.Protocols.{AreProtocols}
 use Rattle.scmi_plan.specs.Rates.{HasValidRates, IsSupported}
 use Rattle.scmi_plan.specs.declared.limits.TheConstants.{AGENTS, DOMAINS, CLOCKS, DEVICES}
@@ -29,6 +28,7 @@ board_of p =
       absent = p.absent;
       free = p.free;
       protocols = p.protocols.items;
+      loose = p.loose;
     }
 
 -- a board that keeps the limits and rules of the profile (own)
@@ -38,13 +38,13 @@ pub record IsValid (board : Board) : Type 0 where
   pub few_domains : length board.domains ≤ DOMAINS
   pub few_clocks : length board.clocks ≤ CLOCKS
   pub few_devices : length board.devices ≤ DEVICES
-  pub vendor : IsName board.vendor
-  pub sub_vendor : IsName board.sub_vendor
-  pub agent_names : All IsName board.agents
-  pub domain_names : (d : ℕ) → d < length board.domains → IsName (domain_at board d).name
-  pub clock_names : (c : ℕ) → c < length board.clocks → IsName (clock_at board c).name
+  pub vendor : IsNameOf board board.vendor
+  pub sub_vendor : IsNameOf board board.sub_vendor
+  pub agent_names : All (λ agent. IsNameOf board agent) board.agents
+  pub domain_names : (d : ℕ) → d < length board.domains → IsNameOf board (domain_at board d).name
+  pub clock_names : (c : ℕ) → c < length board.clocks → IsNameOf board (clock_at board c).name
   pub valid_rates : (c : ℕ) → c < length board.clocks → HasValidRates (clock_at board c).rates
-  pub supported : (c : ℕ) → c < length board.clocks → IsSupported (clock_at board c).rates (clock_at board c).rate
+  pub supported : (c : ℕ) → c < length board.clocks → board.loose ≡ false → IsSupported (clock_at board c).rates (clock_at board c).rate
   pub known_domains : (d : ℕ) → d < length board.devices → (device_at board d).domains < 2 ^ length board.domains
   pub known_clocks : (d : ℕ) → d < length board.devices → (device_at board d).clocks < 2 ^ length board.clocks
   pub trusted : 1 ≤ board.trusted

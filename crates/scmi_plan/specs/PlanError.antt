@@ -1,5 +1,5 @@
 -- The rules that a board has to keep, each as a test, and the first one that a board breaks.
-use Rattle.std.specs.Prelude.{ℕ, ◌-◌, ◌^◌, ◌%◌, ◌==◌, nat_le, nat_lt, Bool, true, not, ◌&&◌, if◌then◌else◌, List, ◌∷◌, length, Option, Some, None}
+use Rattle.std.specs.Prelude.{ℕ, ◌-◌, ◌^◌, ◌%◌, ◌==◌, nat_le, nat_lt, Bool, true, not, ◌&&◌, ◌||◌, if◌then◌else◌, List, ◌∷◌, length, Option, Some, None}
 use Rattle.std.specs.List.{list_all, list_any}
 use Rattle.scmi_codec.specs.declared.name.TheConstants.{NAME_BYTES}
 use Rattle.scmi_plan.specs.Board.{Board}
@@ -19,11 +19,19 @@ has_valid_counts board =
 abbrev pub is_name : List ℕ → Bool
 is_name bytes = nat_le 1 (length bytes) && nat_le (length bytes) NAME_BYTES && list_all (λ byte. nat_le 0x21 byte && nat_le byte 0x7E) bytes
 
--- each name of the board is one (own)
+-- at most 15 bytes, each 0x20 to 0x7E (own)
+abbrev pub is_loose_name : List ℕ → Bool
+is_loose_name bytes = nat_le (length bytes) NAME_BYTES && list_all (λ byte. nat_le 0x20 byte && nat_le byte 0x7E) bytes
+
+-- a name that the board may have (own)
+abbrev pub is_name_of : Board → List ℕ → Bool
+is_name_of board bytes = if board.loose then is_loose_name bytes else is_name bytes
+
+-- each name of the board is one that it may have (own)
 abbrev pub has_valid_names : Board → Bool
 has_valid_names board =
-    is_name board.vendor && is_name board.sub_vendor && list_all is_name board.agents
-    && list_all (λ domain. is_name domain.name) board.domains && list_all (λ clock. is_name clock.name) board.clocks
+    is_name_of board board.vendor && is_name_of board board.sub_vendor && list_all (λ agent. is_name_of board agent) board.agents
+    && list_all (λ domain. is_name_of board domain.name) board.domains && list_all (λ clock. is_name_of board clock.name) board.clocks
 
 -- each rate is below the next
 abbrev pub rises : List ℕ → Bool
@@ -44,9 +52,9 @@ abbrev pub supports : SupportedRates → ℕ → Bool
 supports (rates.list list) rate = list_any (λ r. r == rate) list
 supports (rates.steps low high step) rate = nat_le low rate && nat_le rate high && (rate - low) % step == 0
 
--- each clock has valid rates, and starts at one of them (own)
+-- each clock has valid rates, and starts at one of them, unless the board is loose (own)
 abbrev pub has_valid_clocks : Board → Bool
-has_valid_clocks board = list_all (λ clock. is_valid clock.rates && supports clock.rates clock.rate) board.clocks
+has_valid_clocks board = list_all (λ clock. is_valid clock.rates && (board.loose || supports clock.rates clock.rate)) board.clocks
 
 -- each device holds only domains and clocks of the board (own)
 abbrev pub has_valid_devices : Board → Bool

@@ -1,5 +1,5 @@
 -- The board that a raw plan writes down.
-use Rattle.std.specs.Prelude.{map, replicate, string_bytes}
+use Rattle.std.specs.Prelude.{false, map, replicate, string_bytes}
 use Rattle.scmi_plan.specs.Board.{Board, nothing_denied, nothing_held, own_protocols, whole_channel}
 use Rattle.scmi_plan.specs.Rates.{rates_of}
 use Rattle.scmi_plan.specs.declared.limits.TheConstants.{AGENTS}
@@ -25,7 +25,7 @@ abbrev pub asked_clock : RawClock → Clock
 asked_clock raw = record { name = string_bytes raw.name; enabled = raw.enabled; rate = raw.rate; rates = rates_of raw.rates }
 
 -- the board with its names as bytes: channels are whole, nothing is kept or denied, all is there, no clock is free, and
--- its protocols are power domains and clocks
+-- its protocols are power domains and clocks; it is never loose
 abbrev pub asked_board : RawPlan → Board
 asked_board raw =
     record {
@@ -43,4 +43,5 @@ asked_board raw =
       absent = nothing_held;
       free = 0;
       protocols = own_protocols;
+      loose = false;
     }

@@ -14,6 +14,8 @@ use std::marker::Model;
 
 /// A board of 1 to 8 agents and at most 32 domains, clocks and devices, whose names are valid. Its
 /// channels are whole, and nothing is kept or denied. Agents are numbered from 1, all else from 0.
+/// If it is loose, names may be empty and have blanks, and a clock may start at a rate that is none
+/// of its own.
 #[derive(Debug, Drop)]
 pub struct BoardRows {
     pub vendor: Name,
@@ -24,6 +26,7 @@ pub struct BoardRows {
     pub domains: Vec<Domain>,
     pub clocks: Vec<Clock>,
     pub devices: Vec<Device>,
+    pub loose: bool,
 }
 
 impl Model for BoardRows {
@@ -46,7 +49,7 @@ impl BoardRows {
         ensures rule { IfSome result (λ fault. fault ≢ Memory) }
         ensures rules { (first_fault self.now ≡ None) ↔ IsValid self.now }
     {
-        if !are_valid_clocks(&self.clocks) {
+        if !are_valid_clocks(&self.clocks, self.loose) {
             Some(PlanError::Rates)
         } else if !are_valid_devices(&self.devices, self.domains.len(), self.clocks.len()) {
             Some(PlanError::Device)

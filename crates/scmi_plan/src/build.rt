@@ -30,6 +30,7 @@ pub(crate) fn build_rows(alloc: Global, raw: &RawPlan) -> Result<BoardRows, Allo
         devices: build_devices(alloc, &raw.devices)?,
         // Last of those that take memory: no error drops the clocks and their rates.
         clocks: build_clocks(alloc, &raw.clocks)?,
+        loose: false,
     })
 }
 

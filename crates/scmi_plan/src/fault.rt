@@ -1,5 +1,5 @@
 //! The rules that a board has to keep, in the order of their numbers. None takes memory.
-ghost use Rattle.std.specs.Prelude.{◌≡◌, ◌≢◌, ◌^◌, ◌&&◌, nat_le, nat_lt, IfSome, length, true, map, string_bytes};
+ghost use Rattle.std.specs.Prelude.{◌≡◌, ◌≢◌, ◌^◌, ◌&&◌, ◌||◌, nat_le, nat_lt, IfSome, length, true, map, string_bytes};
 ghost use Rattle.std.specs.List.{list_all};
 ghost use Rattle.scmi_plan.specs.Board.{Board};
 ghost use Rattle.scmi_plan.specs.Rates.{rates_of};
@@ -97,24 +97,25 @@ fn has_valid_clocks(raw: &RawPlan) -> bool
 {
     raw.clocks
         .iter()
-        .all(|clock| starts_at_a_rate(&clock.rates, clock.rate))
+        .all(|clock| is_valid_start(&clock.rates, clock.rate, false))
 }
 
-/// Whether each clock has valid rates, and starts at one of them.
-pub(crate) fn are_valid_clocks(clocks: &[Clock]) -> bool
-    ensures { result ≡ list_all (λ clock. is_valid clock.rates && supports clock.rates clock.rate)
-        clocks.now }
+/// Whether each clock has valid rates, and starts at one of them, unless the board is loose.
+pub(crate) fn are_valid_clocks(clocks: &[Clock], loose: bool) -> bool
+    ensures { result ≡ list_all (λ clock. is_valid clock.rates
+        && (loose || supports clock.rates clock.rate)) clocks.now }
 {
     clocks
         .iter()
-        .all(|clock| starts_at_a_rate(&clock.rates, clock.rate))
+        .all(|clock| is_valid_start(&clock.rates, clock.rate, loose))
 }
 
-/// Whether rates are valid, and this is one of them.
-fn starts_at_a_rate(rates: &Rates, rate: u64) -> bool
-    ensures { result ≡ (is_valid (rates_of rates.now) && supports (rates_of rates.now) rate) }
+/// Whether rates are valid, and this is one of them, unless the board is loose.
+fn is_valid_start(rates: &Rates, rate: u64, loose: bool) -> bool
+    ensures { result ≡ (is_valid (rates_of rates.now)
+        && (loose || supports (rates_of rates.now) rate)) }
 {
-    is_valid(rates) && supports(rates, rate)
+    is_valid(rates) && (loose || supports(rates, rate))
 }
 
 fn is_valid(rates: &Rates) -> bool

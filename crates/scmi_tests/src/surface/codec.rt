@@ -41,6 +41,7 @@ fn name_the_calls() {
     let _: fn(&Message) -> Result<Command, Status> = Command::read;
     let _: fn(&Command, u16) -> Message = Command::pack;
     let _: fn(&str) -> Option<Name> = Name::new;
+    let _: fn(&str) -> Option<Name> = Name::loose;
     let _: fn(&Name) -> [u32; 4] = name_words;
     let _: fn(u64) -> [u32; 2] = rate_words;
     let _: fn(u32, u32) -> u64 = rate_of;

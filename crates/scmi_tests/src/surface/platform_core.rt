@@ -33,6 +33,7 @@ fn agent_of(event: &Event) -> u32 {
         Event::CommandFailed(agent, _frame, _fault) => *agent,
         Event::AdvanceFailed(_fault) => 0,
         Event::Restarted(agent) => *agent,
+        Event::Promoted(place) => *place,
         Event::Reported(_effect) => 0,
     }
 }

@@ -1,4 +1,4 @@
-use Rattle.scmi_core.proofs.PlainBoards.{allows, configures, finds_clocks, finds_domains, lists, reads, resets, rounds, sets, shares}
+use Rattle.scmi_core.proofs.PlainBoards.{allows, configures, finds_clocks, finds_domains, lists, names, reads, refuses, resets, rounds, sets, shares, starts}
 use Rattle.scmi_core.proofs.plain_boards.every_plain_board.Goals as goal
 
 pub returns : goal.returns
@@ -12,5 +12,8 @@ returns c = record {
   rounds = rounds;
   reads = reads;
   lists = lists;
+  names = names;
+  starts = starts;
+  refuses = refuses;
   shares = shares;
 }

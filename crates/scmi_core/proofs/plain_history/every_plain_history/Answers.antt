@@ -1,4 +1,4 @@
-use Rattle.scmi_core.proofs.PlainHistories.{adds, begins, moves}
+use Rattle.scmi_core.proofs.PlainHistories.{adds, begins, in_order, moves}
 use Rattle.scmi_core.proofs.plain_history.every_plain_history.Goals as goal
 
 pub returns : goal.returns
@@ -6,4 +6,5 @@ returns c = record {
   history = adds;
   start = begins;
   platform = moves;
+  order = in_order;
 }

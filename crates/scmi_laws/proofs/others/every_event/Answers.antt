@@ -1,4 +1,4 @@
-use Rattle.scmi_laws.proofs.Events.{advance, advance_failed, command_failed, reported, restarted, sent, unanswered}
+use Rattle.scmi_laws.proofs.Events.{advance, advance_failed, command_failed, promoted, reported, restarted, sent, unanswered}
 use Rattle.scmi_laws.proofs.others.every_event.Goals as goal
 
 pub returns : goal.returns
@@ -8,6 +8,7 @@ returns c = record {
   sent = sent;
   command_failed = command_failed;
   restarted = restarted;
+  promoted = promoted;
   reported = reported;
   unanswered = unanswered;
 }

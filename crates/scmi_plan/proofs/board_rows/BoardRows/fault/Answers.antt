@@ -1,4 +1,4 @@
-use Rattle.std.proofs.Common.{rules, ◌≡◌, ◌↔◌, ◌^◌, ◌&&◌, nat_le, nat_lt, length, None, Some, sym, subst, ◌∙◌}
+use Rattle.std.proofs.Common.{rules, ◌≡◌, ◌↔◌, ◌^◌, ◌&&◌, ◌||◌, nat_le, nat_lt, length, None, Some, sym, subst, ◌∙◌}
 use Rattle.std.specs.List.{list_all}
 use Rattle.scmi_plan.specs.BoardRows.{board_of_rows}
 use Rattle.scmi_plan.specs.Plan.{IsValid}
@@ -11,7 +11,7 @@ pub returns-then-not-are_valid_clocks-clause-fault : goal.returns-then-not-are_v
 returns-then-not-are_valid_clocks-clause-fault c =
     let rows = c.self.inside in
     let clocks : c.are_valid_clocks.result ≡ has_valid_clocks (board_of_rows rows) =
-    subst (λ items. c.are_valid_clocks.result ≡ list_all (λ clock. is_valid clock.rates && supports clock.rates clock.rate) items)
+    subst (λ items. c.are_valid_clocks.result ≡ list_all (λ clock. is_valid clock.rates && (rows.loose || supports clock.rates clock.rate)) items)
     c.deref.ensures.value c.are_valid_clocks.ensures in
     subst (λ board. Some error.Rates ≡ first_fault board) c.self.view_is (sym (rates_fault rows c.self.invariant (sym clocks ∙ c.if-not-are_valid_clocks.true)))
 
@@ -19,7 +19,7 @@ pub returns-then-not-are_valid_devices-clause-fault : goal.returns-then-not-are_
 returns-then-not-are_valid_devices-clause-fault c =
     let rows = c.self.inside in
     let clocks : c.are_valid_clocks.result ≡ has_valid_clocks (board_of_rows rows) =
-    subst (λ items. c.are_valid_clocks.result ≡ list_all (λ clock. is_valid clock.rates && supports clock.rates clock.rate) items)
+    subst (λ items. c.are_valid_clocks.result ≡ list_all (λ clock. is_valid clock.rates && (rows.loose || supports clock.rates clock.rate)) items)
     c.deref.ensures.value c.are_valid_clocks.ensures in
     let n : c.len.result ≡ length rows.domains.items = search rules in
     let m : c.len-else-not-are_valid_clocks.result ≡ length rows.clocks.items = search rules in
@@ -34,7 +34,7 @@ pub returns-then-not-is_trusted_agent-clause-fault : goal.returns-then-not-is_tr
 returns-then-not-is_trusted_agent-clause-fault c =
     let rows = c.self.inside in
     let clocks : c.are_valid_clocks.result ≡ has_valid_clocks (board_of_rows rows) =
-    subst (λ items. c.are_valid_clocks.result ≡ list_all (λ clock. is_valid clock.rates && supports clock.rates clock.rate) items)
+    subst (λ items. c.are_valid_clocks.result ≡ list_all (λ clock. is_valid clock.rates && (rows.loose || supports clock.rates clock.rate)) items)
     c.deref.ensures.value c.are_valid_clocks.ensures in
     let n : c.len.result ≡ length rows.domains.items = search rules in
     let m : c.len-else-not-are_valid_clocks.result ≡ length rows.clocks.items = search rules in
@@ -52,7 +52,7 @@ pub returns-else-not-is_trusted_agent-clause-fault : goal.returns-else-not-is_tr
 returns-else-not-is_trusted_agent-clause-fault c =
     let rows = c.self.inside in
     let clocks : c.are_valid_clocks.result ≡ has_valid_clocks (board_of_rows rows) =
-    subst (λ items. c.are_valid_clocks.result ≡ list_all (λ clock. is_valid clock.rates && supports clock.rates clock.rate) items)
+    subst (λ items. c.are_valid_clocks.result ≡ list_all (λ clock. is_valid clock.rates && (rows.loose || supports clock.rates clock.rate)) items)
     c.deref.ensures.value c.are_valid_clocks.ensures in
     let n : c.len.result ≡ length rows.domains.items = search rules in
     let m : c.len-else-not-are_valid_clocks.result ≡ length rows.clocks.items = search rules in
@@ -74,3 +74,6 @@ returns-then-not-are_valid_devices-clause-rules c = subst (λ board. (first_faul
 
 pub returns-else-not-is_trusted_agent-clause-rules : goal.returns-else-not-is_trusted_agent-clause-rules
 returns-else-not-is_trusted_agent-clause-rules c = subst (λ board. (first_fault board ≡ None) ↔ IsValid board) c.self.view_is (valid_rows c.self.inside)
+
+pub returns-then-not-is_trusted_agent-clause-rules : goal.returns-then-not-is_trusted_agent-clause-rules
+returns-then-not-is_trusted_agent-clause-rules c = subst (λ board. (first_fault board ≡ None) ↔ IsValid board) c.self.view_is (valid_rows c.self.inside)
