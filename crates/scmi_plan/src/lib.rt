@@ -23,9 +23,11 @@ mod not_on_board;
 mod own_protocols;
 mod plan;
 mod plan_error;
+mod plan_settings;
 mod protocols_error;
 mod rates;
 mod raw_plan;
+mod report;
 mod resource;
 mod scope;
 
@@ -47,5 +49,6 @@ pub use plan_error::PlanError;
 pub use protocols_error::{ProtocolsError, check_protocols};
 pub use rates::Rates;
 pub use raw_plan::{RawClock, RawDomain, RawPlan};
+pub use report::Report;
 pub use resource::Resource;
 pub use scope::Scope;
