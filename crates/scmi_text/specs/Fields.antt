@@ -4,6 +4,7 @@ use Rattle.scmi_board.specs.Items.{◌>>=◌, ItemsView, first_item, first_numbe
 use Rattle.scmi_board.specs.Number.{number_of}
 use Rattle.scmi_board.specs.Rows.{after_each}
 use Rattle.scmi_codec.specs.Fault.{fault_in, named_statuses}
+use Rattle.scmi_codec.specs.Rate.{rate_of}
 use Rattle.scmi_codec.specs.declared.fault.Fault.{Fault}
 use Rattle.scmi_codec.specs.declared.payload.TheConstants.{PAYLOAD_WORDS}
 
@@ -32,6 +33,14 @@ unfoldable pub first_flag : ItemsView → Option (Bool × ItemsView)
 first_flag view = do
   number ← first_number 32 view
   if nat_le number.0 1 then Some (nat_eq number.0 1, number.1) else None
+
+-- a clock and its rate, whose low word comes first
+unfoldable pub first_clock_rate : ItemsView → Option ((ℕ × ℕ) × ItemsView)
+first_clock_rate view = do
+  clock ← first_number 32 view
+  low ← first_number 32 clock.1
+  high ← first_number 32 low.1
+  Some ((clock.0, rate_of low.0 high.0), high.1)
 
 -- a payload word after others, of which there is room for one more
 unfoldable pub with_word : List ℕ → List ℕ → Option (List ℕ)

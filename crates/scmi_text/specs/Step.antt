@@ -14,7 +14,7 @@ step_agent (Do agent call) = Some agent
 step_agent Advance = None
 step_agent (Fail agent fault call) = Some agent
 step_agent (AdvanceFailed fault) = None
-step_agent (Report effect) = None
+step_agent (Report report) = None
 step_agent (Restart agent) = Some agent
 
 -- the agent that a step names is one of the board's
@@ -25,7 +25,7 @@ IsStepOf agents step = IfSome (step_agent step) (IsAgent agents)
 abbrev pub IsWithoutHardware : Step → Type 0
 IsWithoutHardware (Fail agent fault call) = ⊥
 IsWithoutHardware (AdvanceFailed fault) = ⊥
-IsWithoutHardware (Report effect) = ⊥
+IsWithoutHardware (Report report) = ⊥
 IsWithoutHardware (Restart agent) = ⊥
 IsWithoutHardware step = Unit {0}
 

@@ -30,5 +30,5 @@ step_with (Platform a call) words = step.Platform a call
 step_with Advance words = step.Advance
 step_with (Fail a fault protocol id) words = step.Fail a fault (call_with protocol id words)
 step_with (AdvanceFailed fault) words = step.AdvanceFailed fault
-step_with (Report effect) words = step.Report effect
+step_with (Report report) words = step.Report report
 step_with (Restart a) words = step.Restart a

@@ -3,12 +3,12 @@ use Rattle.std.specs.Prelude.{ℕ, ◌++◌, Bool, true, false, if◌then◌else
 use Rattle.std.specs.Str.{bytes_eq}
 use Rattle.scmi_board.specs.Items.{◌>>=◌, ItemsView, first_item, first_number, items_left, no_item}
 use Rattle.scmi_board.specs.Lines.{Line, LinesView, lines_left}
-use Rattle.scmi_codec.specs.Rate.{rate_of}
 use Rattle.scmi_codec.specs.declared.fault.Fault.{Fault}
 use Rattle.scmi_codec.specs.declared.fault.Fault.TheVariants.{HardwareError}
-use Rattle.scmi_plan.specs.declared.effect.Effect.{Effect}
 use Rattle.scmi_plan.specs.declared.effect.Effect.TheVariants.{State, Rate, Enabled}
-use Rattle.scmi_text.specs.Fields.{first_agent, first_flag, first_message, first_named_fault, payload_left}
+use Rattle.scmi_plan.specs.declared.report.Report.{Report as ReportOf}
+use Rattle.scmi_plan.specs.declared.report.Report.TheVariants.{Changed, First, Settled}
+use Rattle.scmi_text.specs.Fields.{first_agent, first_clock_rate, first_flag, first_message, first_named_fault, payload_left}
 use Rattle.scmi_text.specs.StepHead.{step_with}
 use Rattle.scmi_text.specs.TextLines.{after_lines}
 use Rattle.scmi_text.specs.WordRow.{form_in}
@@ -50,34 +50,50 @@ advance_head kinds view = elim (no_item view) [
     Some (AdvanceFailed fault.0, fault.1))
 ]
 
--- the change that hardware reports: D W, C LOW HIGH, or C B
-unfoldable pub first_effect : ReportForm → ItemsView → Option (Effect × ItemsView)
-first_effect report.State view = do
+-- what hardware reports, by its form: a change as D W, C LOW HIGH or C B; the place of the set that ends first; or the rate that a clock gets, as C LOW HIGH
+unfoldable pub report_of : ReportForm → ItemsView → Option (ReportOf × ItemsView)
+report_of report.State view = do
   domain ← first_number 32 view
   state ← first_number 32 domain.1
-  Some (State domain.0 state.0, state.1)
-first_effect report.Rate view = do
-  clock ← first_number 32 view
-  low ← first_number 32 clock.1
-  high ← first_number 32 low.1
-  Some (Rate clock.0 (rate_of low.0 high.0), high.1)
-first_effect report.Enabled view = do
+  Some (Changed (State domain.0 state.0), state.1)
+report_of report.Rate view = do
+  rate ← first_clock_rate view
+  Some (Changed (Rate rate.0.0 rate.0.1), rate.1)
+report_of report.Enabled view = do
   clock ← first_number 32 view
   enabled ← first_flag clock.1
-  Some (Enabled clock.0 enabled.0, enabled.1)
+  Some (Changed (Enabled clock.0 enabled.0), enabled.1)
+report_of report.First view = do
+  place ← first_number 32 view
+  Some (First place.0, place.1)
+report_of report.Settled view = do
+  rate ← first_clock_rate view
+  Some (Settled rate.0.0 rate.0.1, rate.1)
 
 -- the forms of what hardware reports, by the words after `report`
 abbrev pub report_forms : List (WordRow (List ℕ) ReportForm)
 report_forms = map (λ row. record { word = row.word.now; form = row.form }) REPORT_FORMS
 
+-- what hardware reports, by the word of its form
+unfoldable pub first_report : ItemsView → Option (ReportOf × ItemsView)
+first_report view = do
+  word ← first_item view
+  form ← form_in word.0 report_forms
+  report_of form word.1
+
+-- what hardware reports, and nothing behind it
+unfoldable pub report_left : ItemsView → Option ReportOf
+report_left view = do
+  report ← first_report view
+  end ← no_item report.1
+  Some report.0
+
 -- what follows `report`
 unfoldable pub report_head : StepKinds → ItemsView → Option (Head × ItemsView)
 report_head kinds view = do
   may ← with_hardware kinds
-  word ← first_item view
-  form ← form_in word.0 report_forms
-  effect ← first_effect form word.1
-  Some (Report effect.0, effect.1)
+  report ← first_report view
+  Some (Report report.0, report.1)
 
 -- P M of a command whose changes the hardware refuses
 abbrev pub failing_head : Fault → ℕ → ItemsView → Option (Head × ItemsView)
@@ -160,6 +176,10 @@ step_of_line kinds agents text = do
 -- the step of a line; a line of hardware has none
 abbrev pub plain_step_of_line : ℕ → List ℕ → Option Step
 plain_step_of_line agents text = step_of_line WithoutHardware agents text
+
+-- the step of a line, which may be of hardware
+abbrev pub hardware_step_of_line : ℕ → List ℕ → Option Step
+hardware_step_of_line agents text = step_of_line All agents text
 
 -- steps with that of a line behind them
 unfoldable pub with_step : StepKinds → ℕ → List Step → List ℕ → Option (List Step)

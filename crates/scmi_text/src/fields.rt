@@ -3,11 +3,11 @@ ghost use Rattle.std.specs.Prelude.{◌≡◌, map, IfOk};
 ghost use Rattle.scmi_board.specs.Items.{items_left};
 ghost use Rattle.scmi_board.specs.LineError.{Gives};
 ghost use Rattle.scmi_plan.specs.Agent.{IsAgent};
-ghost use Rattle.scmi_text.specs.Fields.{first_agent, first_flag, first_message, first_named_fault, payload_left};
+ghost use Rattle.scmi_text.specs.Fields.{first_agent, first_clock_rate, first_flag, first_message, first_named_fault, payload_left};
 
 use arrayvec::ArrayVec;
 use scmi_board::{Items, LineError};
-use scmi_codec::{Fault, Payload};
+use scmi_codec::{Fault, Payload, rate_of};
 
 /// The next item as the number of an agent of a board that has this many, numbered from 1. `Form`
 /// if it is not such a number.
@@ -57,6 +57,18 @@ pub(crate) fn read_flag(items: &mut Items<'_>) -> Result<bool, LineError>
         return Err(LineError::Form);
     }
     Ok(number == 1)
+}
+
+/// The next three items as a clock and its rate in Hz, whose low word comes first.
+#[tactic(auto, unfolding(crate::specs::Fields::first_clock_rate))]
+pub(crate) fn read_clock_rate(items: &mut Items<'_>) -> Result<(u32, u64), LineError>
+    ensures { Gives (λ found. (found, items_left items.new)) result
+        (first_clock_rate (items_left items.old)) }
+{
+    let clock = items.next_word()?;
+    let low = items.next_word()?;
+    let high = items.next_word()?;
+    Ok((clock, rate_of(low, high)))
 }
 
 /// All items that are left, as payload words. `Form` if there are more than `PAYLOAD_WORDS`, or if

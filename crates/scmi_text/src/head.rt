@@ -7,7 +7,7 @@ ghost use Rattle.scmi_text.specs.Step.{Allows, IsStepOf, step_agent};
 ghost use Rattle.scmi_text.specs.StepText.{advance_head, agent_head, command_head, failing_head, first_head, first_refusal, head_of};
 
 use crate::fields::{read_agent, read_message, read_named_fault};
-use crate::report::read_report;
+use crate::report::read_report_head;
 use crate::step_form::{AgentForm, CommandForm, FAILED, REFUSED, STEP_FORMS, StepForm};
 use crate::step_head::Head;
 use crate::step_kinds::StepKinds;
@@ -50,7 +50,7 @@ fn read_head_of(
 {
     match form {
         StepForm::Advance => read_advance(items, kinds),
-        StepForm::Report => read_report(items, kinds),
+        StepForm::Report => read_report_head(items, kinds),
         StepForm::Of(form) => {
             let agent = read_agent(items, agents)?;
             read_agent_head(form, agent, items, kinds)

@@ -31,11 +31,13 @@ mod words;
 
 pub use fields::{read_agent, read_payload};
 pub use plain_step::PlainStep;
+pub use report::read_report;
 pub use script_line::{write_script_line, write_script_lines};
 pub use scripts::read_scripts;
 pub use step::{AgentStep, Call, PlatformStep, Step};
+pub use step_form::{AgentForm, CommandForm, REPORT_FORMS, ReportForm, STEP_FORMS, StepForm};
 pub use step_line::{StepLine, write_step_line};
 pub use step_list::StepList;
-pub use steps::{read_hardware_steps, read_one_step, read_steps};
+pub use steps::{read_hardware_steps, read_one_hardware_step, read_one_step, read_steps};
 pub use word_row::{HeldRow, WordRow, form_in};
 pub use words::write_message_text;

@@ -1,5 +1,5 @@
 //! The forms of the lines of scripts that run in threads, and the words that such lines begin with.
-use crate::word_row::{HeldRow, WordRow};
+use crate::word_row::{HeldRow, rows};
 
 /// The form of a line of scripts.
 #[derive(Clone, Copy)]
@@ -16,12 +16,6 @@ pub(crate) enum OrderForm {
     Until,
     P2a,
     Close,
-}
-
-macro_rules! rows {
-    ($($word:literal $form:expr;)*) => {
-        [$(WordRow { word: $word, form: $form }),*]
-    };
 }
 
 /// The first words of the lines of scripts.

@@ -2,7 +2,7 @@
 
 use crate::step::{AgentStep, Call, PlatformStep, Step};
 use scmi_codec::{Fault, rate_words};
-use scmi_plan::Effect;
+use scmi_plan::{Effect, Report};
 use std::fmt;
 
 /// A step. Its text is the line of a script that encodes it, without a line feed.
@@ -18,7 +18,7 @@ impl fmt::Display for PlainStep<'_> {
             Step::Advance => f.write_str("advance"),
             Step::Fail { agent, fault, call } => write_refused(f, *agent, *fault, call),
             Step::AdvanceFailed { fault } => write_advance_refused(f, *fault),
-            Step::Report { effect } => write_report(f, *effect),
+            Step::Report { report } => write_report(f, *report),
             Step::Restart { agent } => write!(f, "restart {agent}"),
         }
     }
@@ -99,18 +99,30 @@ fn write_advance_refused<W: fmt::Write>(f: &mut fmt::Formatter<W>, fault: Fault)
     }
 }
 
-fn write_report<W: fmt::Write>(f: &mut fmt::Formatter<W>, effect: Effect) -> fmt::Result {
+fn write_report<W: fmt::Write>(f: &mut fmt::Formatter<W>, report: Report) -> fmt::Result {
+    f.write_str("report ")?;
+    match report {
+        Report::Changed(effect) => write_change(f, effect),
+        Report::First(place) => write!(f, "first {place}"),
+        Report::Settled { clock, rate } => {
+            write!(f, "settled {clock}")?;
+            write_words(f, &rate_words(rate))
+        }
+    }
+}
+
+fn write_change<W: fmt::Write>(f: &mut fmt::Formatter<W>, effect: Effect) -> fmt::Result {
     match effect {
         Effect::State { domain, state } => {
-            write!(f, "report state {domain}")?;
+            write!(f, "state {domain}")?;
             write_words(f, &[state])
         }
         Effect::Rate { clock, rate } => {
-            write!(f, "report rate {clock}")?;
+            write!(f, "rate {clock}")?;
             write_words(f, &rate_words(rate))
         }
         Effect::Enabled { clock, enabled } => {
-            write!(f, "report enabled {clock}")?;
+            write!(f, "enabled {clock}")?;
             write_words(f, &[u32::from(enabled)])
         }
     }

@@ -1,6 +1,6 @@
 //! The lines of a script that runs on one thread.
 use scmi_codec::{Fault, Message, Payload};
-use scmi_plan::Effect;
+use scmi_plan::Report;
 
 /// One line of a script: which call is made.
 #[derive(PartialEq, Eq, Debug, Drop)]
@@ -32,9 +32,9 @@ pub enum Step {
     AdvanceFailed {
         fault: Fault,
     },
-    /// The hardware changed by itself, and reports it to the platform.
+    /// The hardware reports this to the platform without being asked.
     Report {
-        effect: Effect,
+        report: Report,
     },
     /// The platform ends what this agent asked for, which has restarted without it.
     Restart {

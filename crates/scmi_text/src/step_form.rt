@@ -1,10 +1,10 @@
 //! The forms of a step's line, and the words that such lines begin with.
 use crate::step::PlatformStep;
-use crate::word_row::{HeldRow, WordRow};
+use crate::word_row::{HeldRow, rows};
 
 /// The form of a step's line.
 #[derive(Clone, Copy)]
-pub(crate) enum StepForm {
+pub enum StepForm {
     Advance,
     Report,
     /// The agent's number follows the first word.
@@ -13,7 +13,7 @@ pub(crate) enum StepForm {
 
 /// The form of the line of a step that is of an agent.
 #[derive(Clone, Copy)]
-pub(crate) enum AgentForm {
+pub enum AgentForm {
     Command(CommandForm),
     Raw,
     Malformed,
@@ -26,29 +26,30 @@ pub(crate) enum AgentForm {
 
 /// The form of the line of a command.
 #[derive(Clone, Copy)]
-pub(crate) enum CommandForm {
+pub enum CommandForm {
     Do,
     Call,
     Fail,
     Refuse,
 }
 
-/// The form of the line of a change that the hardware reports.
+/// The form of the line of what the hardware reports.
 #[derive(Clone, Copy)]
-pub(crate) enum ReportForm {
+pub enum ReportForm {
+    /// The state of a domain has changed.
     State,
+    /// The rate of a clock has changed.
     Rate,
+    /// A clock was enabled or disabled.
     Enabled,
-}
-
-macro_rules! rows {
-    ($($word:literal $form:expr;)*) => {
-        [$(WordRow { word: $word, form: $form }),*]
-    };
+    /// A pending set ends before the others.
+    First,
+    /// A free clock gets this rate of its pending set.
+    Settled,
 }
 
 /// The first words of the lines of steps.
-pub(crate) const STEP_FORMS: [HeldRow<StepForm>; 15] = rows![
+pub const STEP_FORMS: [HeldRow<StepForm>; 15] = rows![
     b"do" StepForm::Of(AgentForm::Command(CommandForm::Do));
     b"call" StepForm::Of(AgentForm::Command(CommandForm::Call));
     b"fail" StepForm::Of(AgentForm::Command(CommandForm::Fail));
@@ -72,9 +73,11 @@ pub(crate) const FAILED: &[u8] = b"failed";
 /// The word after `advance` and before the status with which the hardware refuses.
 pub(crate) const REFUSED: &[u8] = b"refused";
 
-/// The words after `report`: what has changed.
-pub(crate) const REPORT_FORMS: [HeldRow<ReportForm>; 3] = rows![
+/// The words after `report`: what the hardware reports.
+pub const REPORT_FORMS: [HeldRow<ReportForm>; 5] = rows![
     b"state" ReportForm::State;
     b"rate" ReportForm::Rate;
     b"enabled" ReportForm::Enabled;
+    b"first" ReportForm::First;
+    b"settled" ReportForm::Settled;
 ];

@@ -5,7 +5,7 @@ ghost use Rattle.scmi_text.specs.StepText.{has_payload};
 
 use crate::step::{AgentStep, Call, PlatformStep, Step};
 use scmi_codec::{Fault, Header, Message, Payload};
-use scmi_plan::Effect;
+use scmi_plan::Report;
 
 /// A step but for its payload words.
 #[derive(Clone, Copy)]
@@ -53,7 +53,7 @@ pub(crate) enum Head {
         fault: Fault,
     },
     Report {
-        effect: Effect,
+        report: Report,
     },
     Restart {
         agent: u32,
@@ -130,7 +130,7 @@ pub(crate) fn step_with(head: Head, payload: Payload) -> Step
             Step::Fail { agent, fault, call }
         }
         Head::AdvanceFailed { fault } => Step::AdvanceFailed { fault },
-        Head::Report { effect } => Step::Report { effect },
+        Head::Report { report } => Step::Report { report },
         Head::Restart { agent } => Step::Restart { agent },
     }
 }

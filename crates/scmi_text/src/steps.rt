@@ -5,7 +5,7 @@ ghost use Rattle.scmi_board.specs.Items.{items_left};
 ghost use Rattle.scmi_board.specs.LineError.{Gives};
 ghost use Rattle.scmi_board.specs.TextError.{IsOfScript};
 ghost use Rattle.scmi_text.specs.Step.{Allows, IsStepOf, IsWithoutHardware};
-ghost use Rattle.scmi_text.specs.StepText.{payload_of, plain_step_of_line, step_of_line, steps_left};
+ghost use Rattle.scmi_text.specs.StepText.{hardware_step_of_line, payload_of, plain_step_of_line, step_of_line, steps_left};
 ghost use Rattle.scmi_text.specs.TextLines.{GivesScript};
 
 use crate::fields::read_payload;
@@ -61,6 +61,14 @@ pub fn read_one_step(text: &[u8], agents: u32) -> Result<Step, LineError>
     ensures step { Gives (λ step. step) result (plain_step_of_line agents text.now) }
 {
     read_step(text, agents, StepKinds::WithoutHardware)
+}
+
+/// The step of one line, as `read_one_step` gives it, or one beside hardware or a restart (own).
+pub fn read_one_hardware_step(text: &[u8], agents: u32) -> Result<Step, LineError>
+    ensures agent { IfOk result (IsStepOf agents) }
+    ensures step { Gives (λ step. step) result (hardware_step_of_line agents text.now) }
+{
+    read_step(text, agents, StepKinds::All)
 }
 
 /// The steps of all lines that are left, of these kinds.

@@ -18,6 +18,15 @@ pub struct WordRow<W, F> {
 /// A row of a table.
 pub type HeldRow<F> = WordRow<&'static [u8], F>;
 
+/// Rows by their words and forms.
+macro_rules! rows {
+    ($($word:literal $form:expr;)*) => {
+        [$($crate::word_row::WordRow { word: $word, form: $form }),*]
+    };
+}
+
+pub(crate) use rows;
+
 /// The form of a line that begins with this word. `Form` if no row has it.
 pub fn form_in<F: Copy>(mut rows: &[HeldRow<F>], word: &[u8]) -> Result<F, LineError>
     ensures { Gives (λ form. form) result (form_in word.now (map said rows.entry.now)) }
