@@ -1,9 +1,0 @@
-use Rattle.std.proofs.Common.{◌≡◌, map, length}
-use Rattle.scmi_live.specs.Forms.{said, form_in}
-use Rattle.scmi_live.proofs.form.form_in.Given as goal
-
-abbrev pub invariant-loop-rows : goal.invariant-loop-rows
-invariant-loop-rows l = form_in l.word (map said l.rows) ≡ form_in l.word (map said l.initial.rows)
-
-abbrev pub decreases-loop-rows : goal.decreases-loop-rows
-decreases-loop-rows l = length l.rows
