@@ -9,7 +9,7 @@ use Rattle.scmi_codec.specs.declared.command.Command as codec
 use Rattle.scmi_plan.specs.Board.{Board}
 use Rattle.scmi_core.specs.ReadCommand.{command_on}
 use Rattle.scmi_core.specs.declared.event.Event.{Event}
-use Rattle.scmi_core.specs.declared.event.Event.TheVariants.{Command, Promoted, Restarted}
+use Rattle.scmi_core.specs.declared.event.Event.TheVariants.{Command, Restarted}
 
 -- an event, and the payload words of its reply; none if the event is no well-formed command that fits its channel,
 -- done or failed
@@ -55,11 +55,6 @@ success_at board _ reply = None
 abbrev pub restarted_by : Event → Option ℕ
 restarted_by (Restarted a) = Some a
 restarted_by _ = None
-
--- the place of the pending set that an event puts before the others
-abbrev pub promoted_by : Event → Option ℕ
-promoted_by (Promoted place) = Some place
-promoted_by _ = None
 
 -- the successful commands, in order
 abbrev pub successes : Board → List Deed → List Success

@@ -1,5 +1,5 @@
 -- The history of a platform: a list of events, oldest first. Each event is judged at its prefix, the events before it.
-use Rattle.std.specs.Prelude.{◌≡◌, ℕ, Bool, List, [], ◌∷◌, ◌++◌, length, take, ◌<◌, Option, Some, None}
+use Rattle.std.specs.Prelude.{◌≡◌, ℕ, Bool, true, List, [], ◌∷◌, ◌++◌, length, take, ◌<◌, Option, Some, None}
 use Rattle.std.specs.List.{fold}
 use Rattle.scmi_codec.specs.declared.message.Message.{Message}
 use Rattle.scmi_codec.specs.declared.frame.Frame.{Frame}
@@ -9,8 +9,9 @@ use Rattle.scmi_codec.specs.declared.frame.Answer.TheVariants.{Reply, ChannelErr
 use Rattle.scmi_core.specs.declared.answered.Answered.{Answered}
 use Rattle.scmi_core.specs.declared.answered.Answered.TheVariants as answered
 use Rattle.scmi_plan.specs.Agent.{IsAgent}
-use Rattle.scmi_plan.specs.Board.{Board}
+use Rattle.scmi_plan.specs.Board.{Board, is_free}
 use Rattle.scmi_plan.specs.declared.resource.Resource.{Resource}
+use Rattle.scmi_plan.specs.declared.resource.Resource.TheVariants as resource
 use Rattle.scmi_core.specs.declared.event.Event.{Event}
 use Rattle.scmi_core.specs.declared.event.Event.TheVariants.{Command, CommandFailed}
 use Rattle.scmi_core.specs.Deed.{Deed}
@@ -68,6 +69,10 @@ IsIdle board h = pending_sets board (deeds board h) ≡ []
 -- a set is pending at this place after a history; 0 is the first
 abbrev pub HasPendingAt : Board → List Event → ℕ → Type 0
 HasPendingAt board h place = place < length (pending_sets board (deeds board h))
+
+-- this is a clock of the board that is free and has a pending set after a history: the hardware may settle the rate of that set
+abbrev pub CanSettle : Board → List Event → ℕ → Type 0
+CanSettle board h clock = (clock < length board.clocks) × (is_free board clock ≡ true) × (is_pending board (resource.Clock clock) (deeds board h) ≡ true)
 
 -- nothing waits for this agent of the board after a history
 abbrev pub HasNothingFor : Board → ℕ → List Event → Type 0

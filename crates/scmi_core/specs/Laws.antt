@@ -6,7 +6,7 @@ use Rattle.scmi_codec.specs.Payload.{begins_with_success}
 use Rattle.scmi_codec.specs.declared.message.Message.{Message}
 use Rattle.scmi_codec.specs.declared.frame.Frame.TheVariants.{Good}
 use Rattle.scmi_plan.specs.Agent.{IsAgent}
-use Rattle.scmi_plan.specs.Board.{Board, is_kept}
+use Rattle.scmi_plan.specs.Board.{Board, is_free, is_kept}
 use Rattle.scmi_plan.specs.declared.resource.Resource.{Resource}
 use Rattle.scmi_plan.specs.declared.resource.Resource.TheVariants as resource
 use Rattle.scmi_base.specs.Permission.{may}
@@ -14,7 +14,7 @@ use Rattle.scmi_power.specs.PowerReply.{state_off}
 use Rattle.scmi_plan.specs.declared.scope.Scope.{Scope}
 use Rattle.scmi_core.specs.declared.event.Event.{Event}
 use Rattle.scmi_plan.specs.declared.effect.Effect.{Effect}
-use Rattle.scmi_core.specs.declared.event.Event.TheVariants.{Command, Reported}
+use Rattle.scmi_core.specs.declared.event.Event.TheVariants.{Command, Reported, Settled}
 use Rattle.scmi_core.specs.Agents.{answers_to, frame_from, frames_of}
 use Rattle.scmi_core.specs.Deed.{Success, flat_map_with_prefix, success_at, successes}
 use Rattle.scmi_core.specs.History.{deed_after, deeds, delivered_messages, made_for}
@@ -79,14 +79,28 @@ KeepsOn board h = All (IsKeptOnByAgents board) (changes board (deeds board h))
 abbrev pub change_asked : Board → Success → Option Change
 change_asked board s = option_or (change_now board s) (option_map completion (acceptance board s))
 
--- the command that a change came of: it is in the history, was its causer's, asked for this change and succeeded, its agent might change that thing there, and the board did not keep it from that
+-- what was wanted is the rate of a free clock, the hardware settled it in these events, and the change has the rate that it gave
+pub record IsSettled (board : Board) (events : List Event) (wanted change : Change) : Type 0 where
+  pub clock : ℕ
+  pub rate : ℕ
+  pub earlier : List Event
+  pub later : List Event
+  pub thing : wanted.thing ≡ Rate clock
+  pub free : is_free board clock ≡ true
+  pub place : events ≡ earlier ++ Settled clock rate ∷ later
+  pub gives : change ≡ record wanted { value = rate }
+
+-- the command that a change came of: it is in the history, was its causer's, and succeeded; the change is what it asked for, or the hardware settled it after the command;
+-- its agent might change that thing there, and the board did not keep it from that
 pub record HasCause (board : Board) (h : List Event) (change : Change) : Type 0 where
   pub before : List Event
   pub message : Message
   pub after : List Event
+  pub wanted : Change
   pub place : h ≡ before ++ Command change.causer (Good message) ∷ after
   pub agent : IsAgent (length board.agents) change.causer
-  pub asked : option_and_then (change_asked board) (success_at board (Command change.causer (Good message)) (deed_after board (deeds board before) (Command change.causer (Good message))).reply) ≡ Some change
+  pub asked : option_and_then (change_asked board) (success_at board (Command change.causer (Good message)) (deed_after board (deeds board before) (Command change.causer (Good message))).reply) ≡ Some wanted
+  pub given : (change ≡ wanted) ⊎ IsSettled board after wanted change
   pub allowed : may_after board before change.causer change.thing ≡ true
   pub kept : IsKeptOn board change
 

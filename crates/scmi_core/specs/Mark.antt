@@ -3,7 +3,7 @@ use Rattle.std.specs.Prelude.{ℕ, ◌-◌, ◌/◌, ◌%◌, ◌==◌, ◌≤�
 use Rattle.scmi_codec.specs.declared.fault.Fault.{Fault}
 use Rattle.scmi_codec.specs.declared.fault.Fault.TheVariants as fault
 use Rattle.scmi_core.specs.declared.mark.Mark.{Mark}
-use Rattle.scmi_core.specs.declared.mark.Mark.TheVariants.{Advance, Sent, Malformed, Message, Failed, AdvanceFailed, Restarted, Promoted, StateReported, RateReported, EnabledReported}
+use Rattle.scmi_core.specs.declared.mark.Mark.TheVariants.{Advance, Sent, Malformed, Message, Failed, AdvanceFailed, Restarted, Promoted, StateReported, RateReported, EnabledReported, RateSettled}
 
 -- the fault of a number, counted from 0; any other number is read as the last fault
 abbrev pub fault_numbered : ℕ → Fault
@@ -16,16 +16,17 @@ fault_numbered number =
     else if number == 5 then fault.GenericError
     else fault.HardwareError
 
--- the mark of a report, by what it is of, or from 3 on of a promotion, by its place
+-- the mark of a report, by what it is of, of a settled rate, or from 4 on of a promotion, by its place
 abbrev pub report_of : ℕ → Mark
 report_of number =
     if number == 0 then StateReported
     else if number == 1 then RateReported
     else if number == 2 then EnabledReported
-    else Promoted (number - 3)
+    else if number == 3 then RateSettled
+    else Promoted (number - 4)
 
 -- what a word marks: its lowest three bits say what the event is, and the bits above them whose; of a command that
--- failed these are four bits; from bit 7 on there is the fault of what failed; of a report the bits above say of what, and of a promotion at which place
+-- failed these are four bits; from bit 7 on there is the fault of what failed; of a report and of a settled rate the bits above say of what, and of a promotion at which place
 abbrev pub mark_of : ℕ → Mark
 mark_of word =
     if word % 8 == 0 then Advance
@@ -50,3 +51,4 @@ HasAgent (AdvanceFailed fault) most = Unit {0}
 HasAgent StateReported most = Unit {0}
 HasAgent RateReported most = Unit {0}
 HasAgent EnabledReported most = Unit {0}
+HasAgent RateSettled most = Unit {0}

@@ -1,5 +1,5 @@
 -- Sets that are accepted for later, and those of them that are pending (own).
-use Rattle.std.specs.Prelude.{ℕ, ◌+◌, ◌==◌, ◌&&◌, nat_lt, Bool, true, false, not, List, [], ◌++◌, length, take, drop, map, filter, count_by, Option, None, Some, option_map}
+use Rattle.std.specs.Prelude.{ℕ, ◌+◌, ◌==◌, ◌&&◌, nat_lt, Bool, true, false, not, if◌then◌else◌, List, [], ◌++◌, length, take, drop, map, filter, count_by, Option, None, Some, option_map}
 use Rattle.std.specs.List.{list_any}
 use Rattle.std.specs.Option.{option_and_then, option_to_list}
 use Rattle.scmi_codec.specs.Header.{HeaderFields}
@@ -15,8 +15,9 @@ use Rattle.scmi_core.specs.declared.outboxes.TheConstants.{OUTBOX_ROOM}
 use Rattle.scmi_core.specs.declared.pending_set.PendingSet.{PendingSet}
 use Rattle.scmi_core.specs.declared.pending_set.Setting.{Setting}
 use Rattle.scmi_core.specs.declared.event.Event.{Event}
-use Rattle.scmi_core.specs.declared.event.Event.TheVariants.{Advance, AdvanceFailed}
-use Rattle.scmi_core.specs.Deed.{Deed, Success, fold_with_prefix, promoted_by, restarted_by, success_at}
+use Rattle.scmi_core.specs.declared.event.Event.TheVariants.{Advance, AdvanceFailed, Restarted, Promoted}
+use Rattle.scmi_core.specs.declared.event.Event.TheVariants as event
+use Rattle.scmi_core.specs.Deed.{Deed, Success, fold_with_prefix, success_at}
 use Rattle.scmi_core.specs.declared.pending_set.Setting.TheVariants as setting
 
 -- a domain's set that is accepted for later: domain and state; it always wants a delayed response (own)
@@ -53,22 +54,45 @@ unwanted a p = record p { wanted = p.wanted && not (p.agent == a) }
 abbrev pub promoted : {X : Type 0} → ℕ → List X → List X
 promoted place xs = take 1 (drop place xs) ++ (take place xs ++ drop (1 + place) xs)
 
--- the pending sets after an event that restarts an agent, which then wants no delayed response to them, or that puts one of them before the others (own)
-abbrev pub pending_left : (restarted promotion : Option ℕ) → List PendingSet → List PendingSet
-pending_left None None pending = pending
-pending_left None (Some place) pending = promoted place pending
-pending_left (Some a) promotion pending = map (unwanted a) pending
+-- a setting with another rate, if it is one of this clock
+abbrev pub setting_with : (clock rate : ℕ) → Setting → Setting
+setting_with clock rate (setting.State d state) = setting.State d state
+setting_with clock rate (setting.Rate c asked) = setting.Rate c (if clock == c then rate else asked)
+
+-- a set of this clock gives it another rate; any other set is as it was
+abbrev pub settled : (clock rate : ℕ) → PendingSet → PendingSet
+settled clock rate p = record p { setting = setting_with clock rate p.setting }
+
+-- what an event that ends no set changes of those that are pending
+pub data PendingChange : Type 0 where
+  Unwanted : (agent : ℕ) → PendingChange
+  First : (place : ℕ) → PendingChange
+  Settled : (clock rate : ℕ) → PendingChange
+
+-- an agent that restarts wants no delayed response to its sets, a promotion puts one of them before the others, and hardware may settle the rate of one (own)
+abbrev pub pending_change : Event → Option PendingChange
+pending_change (Restarted a) = Some (Unwanted a)
+pending_change (Promoted place) = Some (First place)
+pending_change (event.Settled clock rate) = Some (Settled clock rate)
+pending_change _ = None
+
+-- the pending sets after such a change
+abbrev pub pending_left : Option PendingChange → List PendingSet → List PendingSet
+pending_left None pending = pending
+pending_left (Some (Unwanted a)) pending = map (unwanted a) pending
+pending_left (Some (First place)) pending = promoted place pending
+pending_left (Some (Settled clock rate)) pending = map (settled clock rate) pending
 
 -- what is left of the accepted sets, the first of which have ended
-abbrev pub sets_left : ℕ → (restarted promotion : Option ℕ) → List PendingSet → List PendingSet
-sets_left ended None None sets = sets
-sets_left ended restarted promotion sets = take ended sets ++ pending_left restarted promotion (drop ended sets)
+abbrev pub sets_left : ℕ → Option PendingChange → List PendingSet → List PendingSet
+sets_left ended None sets = sets
+sets_left ended (Some change) sets = take ended sets ++ pending_left (Some change) (drop ended sets)
 
 -- the sets that were accepted for later: those that ended, in the order in which they did, and then those that are pending, in the order in which they will end
 abbrev pub accepted_sets : Board → List Deed → List PendingSet
 accepted_sets board h =
     fold_with_prefix
-    (λ before so_far deed. sets_left (advances before) (restarted_by deed.event) (promoted_by deed.event) so_far ++ option_to_list (option_and_then (acceptance board) (success_at board deed.event deed.reply)))
+    (λ before so_far deed. sets_left (advances before) (pending_change deed.event) so_far ++ option_to_list (option_and_then (acceptance board) (success_at board deed.event deed.reply)))
     [] [] h
 
 -- sets end in order of acceptance, one per advance, but for those that are promoted; the others are pending (own)

@@ -20,7 +20,7 @@ use Rattle.scmi_core.specs.Value.{Change, Thing, change_of, value_in}
 use Rattle.scmi_core.specs.Outboxes.{Gets, HasSameOutbox}
 use Rattle.scmi_core.specs.Tables.{IsOfBoard, IsThing, load_at, outbox_at, situation_in, value_at}
 use Rattle.scmi_core.specs.Deed.{Success, success_of}
-use Rattle.scmi_core.specs.Pending.{acceptance, promoted, unwanted}
+use Rattle.scmi_core.specs.Pending.{acceptance, promoted, settled, unwanted}
 use Rattle.scmi_core.specs.Permissions.{permission_in}
 use Rattle.scmi_core.specs.Outbox.{failed_response_for, made_in, state_changed}
 use Rattle.scmi_core.specs.ReadCommand.{command_on}
@@ -91,6 +91,11 @@ pub record HasRestarted (a : ℕ) (t new : Tables) : Type 0 where
 -- the pending set at a place went before the others, and nothing else changed
 pub record HasPromoted (place : ℕ) (t new : Tables) : Type 0 where
   pub pending : new.pending ≡ promoted place t.pending
+  pub rest : SameButPending t new
+
+-- the pending set of a clock got another rate, and nothing else changed
+pub record HasSettled (clock rate : ℕ) (t new : Tables) : Type 0 where
+  pub pending : new.pending ≡ map (settled clock rate) t.pending
   pub rest : SameButPending t new
 
 -- the hardware reported a change: its thing has the new value, subscribers are notified of it, and nothing else changed

@@ -1,7 +1,8 @@
 -- The tables of a controller, and the situations that they say.
-use Rattle.std.specs.Prelude.{ℕ, List, length, ◌<◌, ◌≤◌}
+use Rattle.std.specs.Prelude.{◌≡◌, ℕ, true, List, length, ◌<◌, ◌≤◌}
 use Rattle.scmi_codec.specs.declared.message.Message.{Message}
-use Rattle.scmi_plan.specs.Board.{Board}
+use Rattle.scmi_plan.specs.Board.{Board, is_free}
+use Rattle.scmi_plan.specs.declared.resource.Resource.TheVariants as resource
 use Rattle.scmi_base.specs.Permission.{is_allowed}
 use Rattle.scmi_power.specs.PowerTable.{is_subscribed, state_at}
 use Rattle.scmi_clock.specs.ClockTable.{rate_at, enabled_at}
@@ -9,7 +10,7 @@ use Rattle.scmi_core.specs.declared.pending_set.PendingSet.{PendingSet}
 use Rattle.scmi_core.specs.declared.tables.Tables.{Tables}
 use Rattle.scmi_core.specs.Value.{Enabled, Rate, State, Thing, bit_value, completion}
 use Rattle.scmi_core.specs.Outboxes.{outbox_in}
-use Rattle.scmi_core.specs.Pending.{load_beside}
+use Rattle.scmi_core.specs.Pending.{has_set_of, load_beside}
 use Rattle.scmi_core.specs.Situation.{Situation}
 
 -- an agent's outbox
@@ -36,6 +37,10 @@ situation_in a t =
       pending = t.pending;
       outbox = outbox_at t a;
     }
+
+-- this is a clock of the board that is free and has a pending set in the tables
+abbrev pub CanSettleIn : Board → Tables → ℕ → Type 0
+CanSettleIn board t clock = (clock < length board.clocks) × (is_free board clock ≡ true) × (has_set_of (resource.Clock clock) t.pending ≡ true)
 
 -- a thing is one of the board
 abbrev pub IsThing : Board → Thing → Type 0

@@ -6,7 +6,7 @@ use Rattle.scmi_codec.specs.declared.frame.Frame.TheVariants as frame
 use Rattle.scmi_codec.specs.declared.payload.TheConstants.{PAYLOAD_WORDS}
 use Rattle.scmi_plan.specs.declared.effect.Effect.TheVariants as effect
 use Rattle.scmi_core.specs.declared.event.Event.{Event}
-use Rattle.scmi_core.specs.declared.event.Event.TheVariants.{Command, Advance, Sent, CommandFailed, AdvanceFailed, Restarted, Promoted, Reported}
+use Rattle.scmi_core.specs.declared.event.Event.TheVariants.{Command, Advance, Sent, CommandFailed, AdvanceFailed, Restarted, Promoted, Settled, Reported}
 use Rattle.scmi_core.specs.declared.mark.Mark.{Mark}
 use Rattle.scmi_core.specs.declared.mark.Mark.TheVariants as mark
 use Rattle.scmi_core.specs.Mark.{mark_of}
@@ -22,10 +22,11 @@ abbrev pub payload_count : Mark → ℕ → ℕ
 payload_count (mark.Message a) size = size
 payload_count (mark.Failed a fault) size = size
 payload_count mark.RateReported size = 2
+payload_count mark.RateSettled size = 2
 payload_count _ size = 0
 
--- the event of a mark, a size, a header and the payload words that follow them; of a report the size is the domain or clock, the
--- header is a state or an enabled bit, and the payload is the two words of a rate
+-- the event of a mark, a size, a header and the payload words that follow them; of a report and of a settled rate the size is the
+-- domain or clock, the header is a state or an enabled bit, and the payload is the two words of a rate
 abbrev pub event_of : Mark → ℕ → ℕ → List ℕ → Event
 event_of (mark.Message a) size header payload = Command a (frame.Good (message_with (header_of header) payload))
 event_of (mark.Malformed a) size header payload = Command a (frame.Malformed size header)
@@ -38,6 +39,7 @@ event_of (mark.AdvanceFailed fault) size header payload = AdvanceFailed fault
 event_of mark.StateReported size header payload = Reported (effect.State size header)
 event_of mark.RateReported size header payload = Reported (effect.Rate size (rate_of (get_or payload 0 0) (get_or payload 1 0)))
 event_of mark.EnabledReported size header payload = Reported (effect.Enabled size (header == 1))
+event_of mark.RateSettled size header payload = Settled size (rate_of (get_or payload 0 0) (get_or payload 1 0))
 
 -- the first n events of some words
 unfoldable pub events_of : ℕ → List ℕ → List Event

@@ -1,5 +1,5 @@
 //! Changes that the hardware made by itself, of a platform that keeps its history.
-ghost use Rattle.std.specs.Prelude.{◌≡◌, ◌≢◌, ◌⊎◌, ◌<◌, ◌++◌, ◌∷◌, [], ◌↔◌, OnOk, OnErr, IfErr, Err};
+ghost use Rattle.std.specs.Prelude.{◌≡◌, ◌≢◌, ◌⊎◌, ◌<◌, ◌≤◌, ◌+◌, ◌++◌, ◌∷◌, [], ◌↔◌, OnOk, OnErr, IfErr, Err};
 ghost use Rattle.scmi_core.specs.Legal.{IsLegal};
 ghost use Rattle.scmi_core.specs.Value.{HasNoResource, HasNoState, IsReportable};
 ghost use Rattle.scmi_core.specs.declared.event.Event.TheVariants.{Reported};
@@ -36,12 +36,13 @@ impl Core {
     }
 
     /// As `report`, for what the hardware may report and with room in the trace.
-    fn take_over(&mut self, effect: Effect)
+    pub(crate) fn take_over(&mut self, effect: Effect)
         requires reportable { IsReportable self.old.board effect }
         requires room { 0 < self.old.room }
         ensures event { self.new.history ≡ self.old.history ++ Reported effect ∷ [] }
         ensures board { self.new.board ≡ self.old.board }
         ensures legal { IsLegal self.new.board self.new.history }
+        ensures room { self.old.room ≤ self.new.room + 1 }
     {
         self.platform.take_over(effect);
         self.trace.push_reported(effect);

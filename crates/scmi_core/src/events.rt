@@ -77,7 +77,7 @@ fn payload_count(mark: Mark, size: u32) -> usize
 {
     match mark {
         Mark::Message(_) | Mark::Failed(..) => size as usize,
-        Mark::RateReported => 2,
+        Mark::RateReported | Mark::RateSettled => 2,
         _ => 0,
     }
 }
@@ -117,6 +117,7 @@ fn event_of(mark: Mark, size: u32, header: u32, payload: &[u32]) -> Event
             clock: size,
             enabled: header == 1,
         }),
+        Mark::RateSettled => Event::Settled(size, rate_of(payload[0], payload[1])),
     }
 }
 

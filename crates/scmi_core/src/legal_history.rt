@@ -49,7 +49,9 @@ impl Trace {
 /// no delayed response is lost unless its agent restarts. A command that is refused moves nobody.
 /// Without all the commands that an agent had refused, a history is as legal, and the same to every
 /// other agent. Each change came of a command whose agent might make that change there, or the
-/// hardware reported it, and only the trusted agent decides what agents may do. No agent switches
+/// hardware reported it, and only the trusted agent decides what agents may do. A change is what
+/// its command asked for, but for the rate of a free clock that the hardware settled after the
+/// command. No agent switches
 /// off what the board keeps. Each answer and each message has room in its agent's channels, and for
 /// an agent that the platform can't send to none is made. What a history changes of the hardware is
 /// what each event changes, in order, and the hardware is asked for all of it but what it reported.

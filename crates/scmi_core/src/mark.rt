@@ -7,7 +7,8 @@ use scmi_codec::Fault;
 
 /// What an event is, and whose. As a word it is the event's number, 0 to 6 in this order, and eight
 /// times its agent, and if it failed 128 times the number of its fault. A report is 7, and eight
-/// times 0 to 2 for what it is of; a promotion is 7, and eight times 3 and its place.
+/// times 0 to 2 for what it is of, and so is a settled rate with 3; a promotion is 7, and eight
+/// times 4 and its place.
 #[derive(Clone, Copy, PartialEq, Eq, Debug)]
 pub enum Mark {
     Advance,
@@ -26,6 +27,8 @@ pub enum Mark {
     RateReported,
     /// The report of whether a clock is enabled.
     EnabledReported,
+    /// The rate that a clock's pending set gives it.
+    RateSettled,
     /// The promotion of the pending set at this place.
     Promoted(u32),
 }
@@ -47,7 +50,8 @@ impl Mark {
             Mark::StateReported => 7,
             Mark::RateReported => 7 + 8,
             Mark::EnabledReported => 7 + 8 * 2,
-            Mark::Promoted(place) => 7 + 8 * (3 + place),
+            Mark::RateSettled => 7 + 8 * 3,
+            Mark::Promoted(place) => 7 + 8 * (4 + place),
         }
     }
 
@@ -69,7 +73,8 @@ impl Mark {
     }
 }
 
-/// The mark of a report, by what it is of, or from 3 on of a promotion, by its place.
+/// The mark of a report, by what it is of, of a settled rate, or from 4 on of a promotion, by its
+/// place.
 fn report_of(number: u32) -> Mark
     ensures { result ≡ report_of number }
 {
@@ -77,7 +82,8 @@ fn report_of(number: u32) -> Mark
         0 => Mark::StateReported,
         1 => Mark::RateReported,
         2 => Mark::EnabledReported,
-        _ => Mark::Promoted(number - 3),
+        3 => Mark::RateSettled,
+        _ => Mark::Promoted(number - 4),
     }
 }
 

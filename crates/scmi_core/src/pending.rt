@@ -5,7 +5,7 @@ ghost use Rattle.scmi_plan.specs.declared.limits.TheConstants.{PENDING_SETS};
 ghost use Rattle.scmi_plan.specs.declared.resource.Resource.TheVariants as resource;
 ghost use Rattle.scmi_plan.specs.declared.limits.TheConstants.{CLOCKS, DOMAINS};
 ghost use Rattle.scmi_plan.specs.declared.mask.TheConstants.{MASK_BITS};
-ghost use Rattle.scmi_core.specs.Pending.{has_room_beside, has_set_of, load_beside, promoted, sets_by, unwanted};
+ghost use Rattle.scmi_core.specs.Pending.{has_room_beside, has_set_of, load_beside, promoted, sets_by, settled, unwanted};
 ghost use Rattle.scmi_core.specs.declared.outboxes.TheConstants.{OUTBOX_ROOM};
 
 use crate::outboxes::OUTBOX_ROOM;
@@ -91,6 +91,16 @@ impl Pending {
         // A `rotate_right` would do, and takes more code.
         sets.copy_within(..place, 1);
         sets[0] = set;
+    }
+
+    /// Gives each set of a clock this rate.
+    pub fn settle(&mut self, clock: u32, rate: u64)
+        ensures { self.new ≡ map (settled clock rate) self.old }
+    {
+        let sets = self.sets.as_mut_slice();
+        for set in sets.iter_mut() {
+            set.setting = set.setting.with_rate(clock, rate);
+        }
     }
 
     /// Becomes the same as others.

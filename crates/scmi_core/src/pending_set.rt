@@ -1,7 +1,7 @@
 //! Sets that are accepted and not yet complete.
 ghost use Rattle.std.specs.Prelude.{◌≡◌, ◌↔◌, true};
 ghost use Rattle.scmi_core.specs.Effect.{setting_effect};
-ghost use Rattle.scmi_core.specs.Pending.{is_set_by};
+ghost use Rattle.scmi_core.specs.Pending.{is_set_by, setting_with};
 
 use scmi_codec::Header;
 use scmi_plan::{Effect, Resource};
@@ -38,6 +38,18 @@ impl Setting {
             (Resource::Domain(domain), Setting::State(number, _)) => domain == number,
             (Resource::Clock(clock), Setting::Rate(number, _)) => clock == number,
             _ => false,
+        }
+    }
+
+    /// The setting with another rate, if it is one of this clock.
+    pub fn with_rate(self, clock: u32, rate: u64) -> Setting
+        ensures { result ≡ setting_with clock rate self }
+    {
+        match self {
+            Setting::State(..) => self,
+            Setting::Rate(number, asked) => {
+                Setting::Rate(number, if clock == number { rate } else { asked })
+            }
         }
     }
 }

@@ -4,7 +4,7 @@ ghost use Rattle.scmi_codec.specs.declared.payload.TheConstants.{PAYLOAD_WORDS};
 ghost use Rattle.scmi_plan.specs.declared.limits.TheConstants.{AGENTS, PENDING_SETS};
 ghost use Rattle.scmi_core.specs.Mark.{HasAgent};
 ghost use Rattle.scmi_core.specs.Trace.{event_of, payload_count};
-ghost use Rattle.scmi_core.specs.declared.event.Event.TheVariants.{Command, Advance, Sent, CommandFailed, AdvanceFailed, Restarted, Promoted, Reported};
+ghost use Rattle.scmi_core.specs.declared.event.Event.TheVariants.{Command, Advance, Sent, CommandFailed, AdvanceFailed, Restarted, Promoted, Settled, Reported};
 ghost use Rattle.scmi_codec.specs.declared.frame.Frame.TheVariants.{Good};
 
 use crate::event::Event;
@@ -179,6 +179,15 @@ impl Trace {
         ensures room { self.old.room ≤ self.new.room + 1 }
     {
         self.push(Mark::Promoted(place), 0, 0, &[]);
+    }
+
+    /// Adds the rate that the pending set of a clock gives it in the room that there is.
+    pub(crate) fn push_settled(&mut self, clock: u32, rate: u64)
+        requires room { 0 < self.old.room }
+        ensures events { self.new.events ≡ self.old.events ++ Settled clock rate ∷ [] }
+        ensures room { self.old.room ≤ self.new.room + 1 }
+    {
+        self.push(Mark::RateSettled, clock, 0, &rate_words(rate));
     }
 
     /// Adds the report of a change that the hardware made by itself in the room that there is.
