@@ -6,7 +6,7 @@ use Rattle.scmi_codec.specs.declared.frame.Frame.{Frame}
 use Rattle.scmi_codec.specs.declared.frame.Answer.{Answer}
 use Rattle.scmi_plan.specs.Board.{Board}
 use Rattle.scmi_core.specs.declared.event.Event.{Event}
-use Rattle.scmi_core.specs.declared.event.Event.TheVariants.{Command, Advance, Sent, CommandFailed, AdvanceFailed, Restarted, Promoted, Reported}
+use Rattle.scmi_core.specs.declared.event.Event.TheVariants.{Command, Advance, Sent, CommandFailed, AdvanceFailed, Restarted, Promoted, Settled, Reported}
 use Rattle.scmi_core.specs.Deed.{fold_with_prefix}
 use Rattle.scmi_core.specs.History.{answer_to}
 use Rattle.scmi_core.specs.Reply.{failed_answer}
@@ -25,6 +25,7 @@ module _ (board : Board) (a : ℕ) where
   one before (AdvanceFailed fault) fs = omega arith
   one before (Restarted b) fs = omega arith
   one before (Promoted place) fs = omega arith
+  one before (Settled clock rate) fs = omega arith
   one before (Reported effect) fs = omega arith
 
   from : (before : List Event) (so_far : List Answer) (h : List Event)

@@ -15,12 +15,12 @@ use Rattle.scmi_codec.specs.declared.command.Command as codec
 use Rattle.scmi_core.specs.declared.pending_set.PendingSet.{PendingSet}
 use Rattle.scmi_core.specs.declared.event.Event.{Event}
 use Rattle.scmi_codec.specs.declared.fault.Fault.{Fault}
-use Rattle.scmi_core.specs.declared.event.Event.TheVariants.{Command, Advance, Sent, CommandFailed, AdvanceFailed, Restarted, Promoted, Reported}
+use Rattle.scmi_core.specs.declared.event.Event.TheVariants.{Command, Advance, Sent, CommandFailed, AdvanceFailed, Restarted, Promoted, Settled, Reported}
 use Rattle.scmi_core.specs.declared.tables.Tables.{Tables}
 use Rattle.std.specs.Option.{option_to_list, option_and_then}
-use Rattle.scmi_core.specs.Deed.{Deed, success_of, success_with, fold_with_prefix, promoted_by, restarted_by}
+use Rattle.scmi_core.specs.Deed.{Deed, success_of, success_with, fold_with_prefix, restarted_by}
 use Rattle.scmi_core.specs.Value.{Change, Thing, State, Rate, Enabled, completed_set, failed_set, change_by}
-use Rattle.scmi_core.specs.Pending.{acceptance, accepted_sets, advances, pending_sets, pending_left, pending_of, promoted, sets_by, is_advance, unwanted}
+use Rattle.scmi_core.specs.Pending.{acceptance, accepted_sets, advances, pending_sets, pending_change, pending_left, pending_of, promoted, sets_by, settled, is_advance, unwanted}
 use Rattle.scmi_core.specs.Outbox.{failed_response_for, failed_response_to, messages_made, made_by, outbox_after, sent_count, is_sent_by, response_for, response_to, notice_in, situation_after}
 use Rattle.scmi_core.specs.History.{deeds, deed_after, outbox}
 use Rattle.scmi_core.specs.Legal.{IsLegal}
@@ -33,8 +33,9 @@ use Rattle.scmi_core.specs.Agreement.{Agrees}
 use Rattle.scmi_core.proofs.Accepting.{accepted}
 use Rattle.scmi_core.proofs.Deeds.{added_success, made_by-unfailed, pending_sets-push, pending_sets-advance, pending_sets-failed, outbox-push, sent_count-push}
 use Rattle.scmi_core.proofs.Legal.{Grown, empty, grow, grown, deeds-push, IsLegal-front, advances_le-accepted, sent_le-made}
-use Rattle.scmi_core.proofs.Situations.{messages_made-sent, nothing-made, outbox-promoted, outbox-restarted}
+use Rattle.scmi_core.proofs.Situations.{messages_made-sent, nothing-made, outbox-promoted, outbox-restarted, outbox-settled}
 use Rattle.scmi_core.proofs.Promotions.{promoted-by, promoted-length}
+use Rattle.scmi_core.proofs.Settlings.{mapped-by}
 
 both_true : (a b : Bool) → (a && b) ≡ true → (a ≡ true) × (b ≡ true)
 both_true true true e = (refl, refl)
@@ -114,13 +115,12 @@ fits : (board : Board) (h : List Deed) (b : ℕ) (header : HeaderFields) (r : Re
 fits board h b header r had None e = fits-none board h had
 fits board h b header r had (Some p) e = let one = accepted board b header (situation_after board b h) p r e in fits-some board h b p had one.own one.room
 
--- a deed that completes and posts nothing
-settled : (board : Board) (h : List Deed) (deed : Deed) → is_advance deed.event ≡ false → ((a : ℕ) → is_sent_by a deed.event ≡ false) → completed_set board h deed.event ≡ None → failed_set board h deed.event ≡ None → restarted_by deed.event ≡ None → promoted_by deed.event ≡ None
+-- a deed that completes and posts nothing, and changes no set that is pending
+unmoved : (board : Board) (h : List Deed) (deed : Deed) → is_advance deed.event ≡ false → ((a : ℕ) → is_sent_by a deed.event ≡ false) → completed_set board h deed.event ≡ None → failed_set board h deed.event ≡ None → restarted_by deed.event ≡ None → pending_change deed.event ≡ None
     → advances h ≤ length (accepted_sets board h) → ((a : ℕ) → sent_count a h ≤ length (messages_made board a h)) → Fits board h (option_and_then (acceptance board) (added_success board deed)) → HasBounds board (h ++ deed ∷ [])
-settled board h deed stays unsent none unfailed unrestarted unpromoted enough enough_sent fit =
+unmoved board h deed stays unsent none unfailed unrestarted unchanged enough enough_sent fit =
     let pend = pending_sets-push board h deed stays enough
-    ∙ ap (λ restarted. pending_left restarted (promoted_by deed.event) (pending_sets board h) ++ option_to_list (option_and_then (acceptance board) (added_success board deed))) unrestarted
-    ∙ ap (λ promotion. pending_left None promotion (pending_sets board h) ++ option_to_list (option_and_then (acceptance board) (added_success board deed))) unpromoted in
+    ∙ ap (λ change. pending_left change (pending_sets board h) ++ option_to_list (option_and_then (acceptance board) (added_success board deed))) unchanged in
     record {
       pending = rw pend fit.few;
       loads = λ a.
@@ -194,15 +194,6 @@ bounds-sent board h b enough had =
           rw (pend, messages_made-sent board a h b) (omega arith);
     }
 
--- a restart leaves each set to its agent
-unwanted-by : (a b : ℕ) (sets : List PendingSet) → length (sets_by a (map (unwanted b) sets)) ≡ length (sets_by a sets)
-unwanted-by a b [] = refl
-unwanted-by a b (p ∷ ps) = by (p.agent == a) (unwanted-by a b ps) where
-  by : (own : Bool) → length (sets_by a (map (unwanted b) ps)) ≡ length (sets_by a ps)
-      → length (if own then unwanted b p ∷ sets_by a (map (unwanted b) ps) else sets_by a (map (unwanted b) ps)) ≡ length (if own then p ∷ sets_by a ps else sets_by a ps)
-  by true rest = ap suc rest
-  by false rest = rest
-
 bounds-restarted : (board : Board) (h : List Deed) (b : ℕ) → advances h ≤ length (accepted_sets board h) → ((a : ℕ) → sent_count a h ≤ length (messages_made board a h)) → HasBounds board h
     → HasBounds board (h ++ record { event = Restarted b; reply = [] } ∷ [])
 bounds-restarted board h b enough enough_sent had =
@@ -210,7 +201,7 @@ bounds-restarted board h b enough enough_sent had =
     let pend = pending_sets-push board h deed refl enough ∙ append-nil (map (unwanted b) (pending_sets board h)) in
     record {
       pending = rw (pend, length-map (pending_sets board h) (unwanted b)) had.pending;
-      loads = λ a. rw (pend, unwanted-by a b (pending_sets board h), outbox-restarted board a h b (enough_sent a)) (by a (a == b));
+      loads = λ a. rw (pend, mapped-by a (unwanted b) (λ p. refl) (pending_sets board h), outbox-restarted board a h b (enough_sent a)) (by a (a == b));
     } where
       by : (a : ℕ) (own : Bool) → length (if own then [] else outbox_after board a h) + length (pending_of board a h) ≤ 16
       by a true = let old = had.loads a in omega arith
@@ -227,24 +218,36 @@ bounds-promoted board h place enough enough_sent had =
       loads = λ a. rw (pend, promoted-by a place (pending_sets board h), outbox-promoted board a h place (enough_sent a)) (had.loads a);
     }
 
+-- and so does a settled rate
+bounds-settled : (board : Board) (h : List Deed) (clock rate : ℕ) → advances h ≤ length (accepted_sets board h) → ((a : ℕ) → sent_count a h ≤ length (messages_made board a h)) → HasBounds board h
+    → HasBounds board (h ++ record { event = Settled clock rate; reply = [] } ∷ [])
+bounds-settled board h clock rate enough enough_sent had =
+    let deed : Deed = record { event = Settled clock rate; reply = [] } in
+    let pend = pending_sets-push board h deed refl enough ∙ append-nil (map (settled clock rate) (pending_sets board h)) in
+    record {
+      pending = rw (pend, length-map (pending_sets board h) (settled clock rate)) had.pending;
+      loads = λ a. rw (pend, mapped-by a (settled clock rate) (λ p. refl) (pending_sets board h), outbox-settled board a h clock rate (enough_sent a)) (had.loads a);
+    }
+
 bounds-more : (board : Board) (h : List Deed) (e : Event) → advances h ≤ length (accepted_sets board h) → ((a : ℕ) → sent_count a h ≤ length (messages_made board a h)) → HasBounds board h → HasBounds board (h ++ deed_after board h e ∷ [])
 bounds-more board h (Command b (Good m)) enough enough_sent had =
-    settled board h (deed_after board h (Command b (Good m))) refl (λ a. refl) refl refl refl refl enough enough_sent (by (fits_channel board b m)) where
+    unmoved board h (deed_after board h (Command b (Good m))) refl (λ a. refl) refl refl refl refl enough enough_sent (by (fits_channel board b m)) where
       by : (short : Bool)
           → Fits board h (option_and_then (acceptance board) (success_of b m.header (command_on board m) (if short then reply_words board b (situation_after board b h) (command_on board m) else [])))
       by true = fits board h b m.header (command_on board m) had _ refl
       by false = fits-none board h had
 bounds-more board h (Command b (Malformed len header)) enough enough_sent had =
-    settled board h (deed_after board h (Command b (Malformed len header))) refl (λ a. refl) refl refl refl refl enough enough_sent (fits-none board h had)
+    unmoved board h (deed_after board h (Command b (Malformed len header))) refl (λ a. refl) refl refl refl refl enough enough_sent (fits-none board h had)
 bounds-more board h (CommandFailed b (Good m) fault) enough enough_sent had =
-    settled board h (deed_after board h (CommandFailed b (Good m) fault)) refl (λ a. refl) refl refl refl refl enough enough_sent (fits-none board h had)
+    unmoved board h (deed_after board h (CommandFailed b (Good m) fault)) refl (λ a. refl) refl refl refl refl enough enough_sent (fits-none board h had)
 bounds-more board h (CommandFailed b (Malformed len header) fault) enough enough_sent had =
-    settled board h (deed_after board h (CommandFailed b (Malformed len header) fault)) refl (λ a. refl) refl refl refl refl enough enough_sent (fits-none board h had)
+    unmoved board h (deed_after board h (CommandFailed b (Malformed len header) fault)) refl (λ a. refl) refl refl refl refl enough enough_sent (fits-none board h had)
 bounds-more board h (AdvanceFailed fault) enough enough_sent had = bounds-failed board h fault enough_sent had
 bounds-more board h (Reported effect) enough enough_sent had =
-    settled board h (deed_after board h (Reported effect)) refl (λ a. refl) refl refl refl refl enough enough_sent (fits-none board h had)
+    unmoved board h (deed_after board h (Reported effect)) refl (λ a. refl) refl refl refl refl enough enough_sent (fits-none board h had)
 bounds-more board h (Restarted b) enough enough_sent had = bounds-restarted board h b enough enough_sent had
 bounds-more board h (Promoted place) enough enough_sent had = bounds-promoted board h place enough enough_sent had
+bounds-more board h (Settled clock rate) enough enough_sent had = bounds-settled board h clock rate enough enough_sent had
 bounds-more board h Advance enough enough_sent had = bounds-advance board h enough_sent had
 bounds-more board h (Sent b) enough enough_sent had = bounds-sent board h b enough had
 

@@ -1,7 +1,8 @@
 -- Each change of a legal history came of a command of its causer, who might make it there, or the hardware reported it.
-use Rattle.std.proofs.Common.{◌≡◌, inl, inr, ℕ, ◌==◌, ◌&&◌, Bool, true, false, not, List, [], ◌∷◌, ◌++◌, length, map, slice_get, Option, Some, None, Result, Ok, Err, option_map, unwrap_or, refl, sym, ap, ◌∙◌, subst, if◌then◌else◌}
+use Rattle.std.proofs.Common.{◌≡◌, ◌≢◌, ◌⊎◌, inl, inr, ℕ, ◌==◌, ◌&&◌, Bool, true, false, not, List, [], ◌∷◌, ◌++◌, length, map, slice_get, Option, Some, None, Result, Ok, Err, option_map, unwrap_or, refl, sym, ap, ◌∙◌, subst, if◌then◌else◌}
 use Rattle.std.specs.List.{All}
 use Rattle.std.specs.Option.{option_and_then, option_or, option_to_list}
+use Rattle.std.proofs.lemmas.Bool.Decides.{eqb_tells}
 use Rattle.std.proofs.lemmas.List.{append_assoc, append-nil}
 use Rattle.std.proofs.lemmas.List.Elements.{All-append, All-drop, All-head, All-map, All-nil, All-same, All-weaker}
 use Rattle.scmi_codec.specs.Header.{HeaderFields}
@@ -14,7 +15,7 @@ use Rattle.scmi_codec.specs.declared.command.Command.TheVariants.{Base, Power, C
 use Rattle.scmi_codec.specs.declared.power_command.PowerCommand.{PowerCommand}
 use Rattle.scmi_codec.specs.declared.clock_command.ClockCommand.{ClockCommand}
 use Rattle.scmi_plan.specs.Agent.{IsAgent}
-use Rattle.scmi_plan.specs.Board.{Board, is_kept}
+use Rattle.scmi_plan.specs.Board.{Board, is_free, is_kept}
 use Rattle.scmi_plan.specs.declared.resource.Resource.TheVariants as resource
 use Rattle.scmi_base.specs.Permission.{may}
 use Rattle.scmi_power.specs.PowerReply.{power_reply}
@@ -29,18 +30,20 @@ use Rattle.scmi_clock.specs.ClockProtocol.{clock_effect, later_effect, may_in, s
 use Rattle.scmi_clock.specs.ClockTable.{enabled_now, rate_later, rate_now}
 use Rattle.scmi_clock.proofs.ClockLaws.{clock_laws}
 use Rattle.scmi_core.specs.declared.event.Event.{Event}
-use Rattle.scmi_core.specs.declared.event.Event.TheVariants.{Command, Advance, Sent, CommandFailed, AdvanceFailed, Restarted, Promoted, Reported}
+use Rattle.scmi_core.specs.declared.event.Event.TheVariants.{Command, Advance, Sent, CommandFailed, AdvanceFailed, Restarted, Promoted, Settled, Reported}
 use Rattle.scmi_core.specs.declared.pending_set.PendingSet.{PendingSet}
+use Rattle.scmi_core.specs.declared.pending_set.Setting.{Setting}
+use Rattle.scmi_core.specs.declared.pending_set.Setting.TheVariants as setting
 use Rattle.scmi_core.specs.Deed.{Success, fold_with_prefix, success_at, success_of, success_with}
 use Rattle.scmi_core.specs.History.{deed_after, deeds}
-use Rattle.scmi_core.specs.Laws.{HasCause, HasIntegrity, HasOrigin, IsKeptOn, IsKeptOnByAgents, IsReported, KeepsOn, change_asked, may_after, resource_of}
+use Rattle.scmi_core.specs.Laws.{HasCause, HasIntegrity, HasOrigin, IsKeptOn, IsKeptOnByAgents, IsReported, IsSettled, KeepsOn, change_asked, may_after, resource_of}
 use Rattle.scmi_core.specs.Legal.{CanFollow, IsLegal}
 use Rattle.scmi_core.specs.Outbox.{situation_after}
-use Rattle.scmi_core.specs.Pending.{acceptance, pending_sets, promoted, rate_set, state_set, unwanted}
+use Rattle.scmi_core.specs.Pending.{acceptance, pending_sets, promoted, rate_set, setting_with, settled, state_set, unwanted}
 use Rattle.scmi_core.specs.ReadCommand.{command_on}
 use Rattle.scmi_core.specs.Reply.{fits_channel, reply_words}
 use Rattle.scmi_core.specs.Situation.{Situation, clock_view, power_view}
-use Rattle.scmi_core.specs.Value.{Change, Enabled, Rate, State, bit_value, change_now, change_reported, changes, completion}
+use Rattle.scmi_core.specs.Value.{Change, Enabled, Rate, State, bit_value, change_now, change_reported, changes, completion, set_to_change}
 use Rattle.scmi_core.proofs.Accepting.{All-option, then_some}
 use Rattle.scmi_core.proofs.Deeds.{changes-push}
 use Rattle.scmi_core.proofs.Following.{change-is, change_in, pending-next, pending_next}
@@ -165,19 +168,79 @@ later-asked board (Some s) p is =
 
 -- ONE MORE EVENT
 
-cause-kept : (board : Board) (h : List Event) (e : Event) (change : Change) → HasCause board h change → HasCause board (h ++ e ∷ []) change
+pub cause-kept : (board : Board) (h : List Event) (e : Event) (change : Change) → HasCause board h change → HasCause board (h ++ e ∷ []) change
 cause-kept board h e change had = record {
   before = had.before;
   message = had.message;
   after = had.after ++ e ∷ [];
+  wanted = had.wanted;
   place = ap (λ xs. xs ++ e ∷ []) had.place ∙ append_assoc had.before (Command change.causer (Good had.message) ∷ had.after) (e ∷ []);
   agent = had.agent;
   asked = had.asked;
+  given = by had.given;
   allowed = had.allowed;
   kept = had.kept;
 }
+  where
+    by : (change ≡ had.wanted) ⊎ IsSettled board had.after had.wanted change → (change ≡ had.wanted) ⊎ IsSettled board (had.after ++ e ∷ []) had.wanted change
+    by (inl same) = inl same
+    by (inr was) = inr (record {
+      clock = was.clock;
+      rate = was.rate;
+      earlier = was.earlier;
+      later = was.later ++ e ∷ [];
+      thing = was.thing;
+      free = was.free;
+      place = ap (λ xs. xs ++ e ∷ []) was.place ∙ append_assoc was.earlier (Settled was.clock was.rate ∷ was.later) (e ∷ []);
+      gives = was.gives;
+    })
 
-reported-kept : (board : Board) (h : List Event) (e : Event) (change : Change) → IsReported board h change → IsReported board (h ++ e ∷ []) change
+-- a pending set whose rate the hardware settles is still that of its command
+module _ (board : Board) (h : List Event) (clock rate a : ℕ) (free : is_free board clock ≡ true) where
+  abbrev h' : List Event
+  h' = h ++ Settled clock rate ∷ []
+
+  abbrev at_rate : Change → Change
+  at_rate change = record change { value = rate }
+
+  settled-rate : (c asked : ℕ) → (clock ≡ c) → HasCause board h (record { thing = Rate c; value = asked; causer = a }) → HasCause board h' (record { thing = Rate c; value = rate; causer = a })
+  settled-rate c asked same had = record {
+    before = had.before;
+    message = had.message;
+    after = had.after ++ Settled clock rate ∷ [];
+    wanted = had.wanted;
+    place = ap (λ xs. xs ++ Settled clock rate ∷ []) had.place ∙ append_assoc had.before (Command a (Good had.message) ∷ had.after) (Settled clock rate ∷ []);
+    agent = had.agent;
+    asked = had.asked;
+    given = inr (record {
+      clock = clock;
+      rate = rate;
+      earlier = had.after;
+      later = [];
+      thing = sym (ap (λ x. x.thing) of) ∙ ap Rate (sym same);
+      free = free;
+      place = refl;
+      gives = of;
+    });
+    allowed = had.allowed;
+    kept = had.kept;
+  }
+    where
+      by : (rate_given a (c, asked) ≡ had.wanted) ⊎ IsSettled board had.after had.wanted (rate_given a (c, asked)) → rate_given a (c, rate) ≡ record had.wanted { value = rate }
+      by (inl same) = ap at_rate same
+      by (inr was) = ap at_rate was.gives
+
+      of : rate_given a (c, rate) ≡ record had.wanted { value = rate }
+      of = by had.given
+
+  pub cause-settled : (s : Setting) → HasCause board h (set_to_change a s) → HasCause board h' (set_to_change a (setting_with clock rate s))
+  cause-settled (setting.State d state) had = cause-kept board h (Settled clock rate) (set_to_change a (setting.State d state)) had
+  cause-settled (setting.Rate c asked) had = by (eqb_tells clock c) where
+    by : (((clock == c) ≡ true) × (clock ≡ c)) ⊎ (((clock == c) ≡ false) × (clock ≢ c)) → HasCause board h' (rate_given a (c, if clock == c then rate else asked))
+    by (inl same) = subst (λ is. HasCause board h' (rate_given a (c, if is then rate else asked))) (sym same.0) (settled-rate c asked same.1 had)
+    by (inr other) = subst (λ is. HasCause board h' (rate_given a (c, if is then rate else asked))) (sym other.0) (cause-kept board h (Settled clock rate) (rate_given a (c, asked)) had)
+
+pub reported-kept : (board : Board) (h : List Event) (e : Event) (change : Change) → IsReported board h change → IsReported board (h ++ e ∷ []) change
 reported-kept board h e change had = record {
   before = had.before;
   effect = had.effect;
@@ -195,23 +258,25 @@ origin-kept board h e change (inr had) = inr (reported-kept board h e change had
 cause : (board : Board) (h : List Event) (a : ℕ) (m : Message) (change : Change) → IsAgent (length board.agents) a
     → option_and_then (change_asked board) (success_at board (Command a (Good m)) (deed_after board (deeds board h) (Command a (Good m))).reply) ≡ Some change → HasCause board (h ++ Command a (Good m) ∷ []) change
 cause board h a m change agent asked =
-    let is = given (fits_channel board a m) asked in
+    let is = fits (fits_channel board a m) asked in
     let back = sym is.causer in
     record {
       before = h;
       message = m;
       after = [];
+      wanted = change;
       place = ap (λ x. h ++ Command x (Good m) ∷ []) back;
       agent = subst (IsAgent (length board.agents)) back agent;
       asked = subst (λ x. option_and_then (change_asked board) (success_at board (Command x (Good m)) (deed_after board (deeds board h) (Command x (Good m))).reply) ≡ Some change) back asked;
+      given = inl refl;
       allowed = subst (λ x. may_after board h x change.thing ≡ true) back is.allowed;
       kept = is.kept;
     } where
-      given : (short : Bool)
+      fits : (short : Bool)
           → option_and_then (change_asked board) (success_of a m.header (command_on board m) (if short then reply_words board a (situation_after board a (deeds board h)) (command_on board m) else [])) ≡ Some change
           → IsOwn board a (situation_after board a (deeds board h)) change
-      given true asked = asked-own board a m.header (situation_after board a (deeds board h)) change (command_on board m) asked
-      given false asked = absurd (cc)
+      fits true asked = asked-own board a m.header (situation_after board a (deeds board h)) change (command_on board m) asked
+      fits false asked = absurd (cc)
 
 -- each change so far has its cause or was reported, and each that a pending set is to make has its cause
 record HasCauses (board : Board) (h : List Event) : Type 0 where
@@ -238,7 +303,7 @@ causes-more board h e legal had new left =
           (All-weaker (λ p. HasCause board h (completion p)) (λ p. HasCause board (h ++ e ∷ []) (completion p)) (λ p. cause-kept board h e (completion p)) (pending_sets board ds) had.pending));
     }
 
--- what a completion changes its set asked for
+-- what a completion changes its set was to make
 completed-cause : (board : Board) (h : List Event) (ps : List PendingSet) (change : Change) → All (λ p. HasCause board h (completion p)) ps
     → option_or (option_map completion (slice_get ps 0)) None ≡ Some change → HasCause board h change
 completed-cause board h [] change all is = absurd (cc)
@@ -279,6 +344,14 @@ module _ (board : Board) (h : List Event) (legal : IsLegal board h) (had : HasCa
       (λ all.
       All-same (λ p. HasCause board (h ++ Promoted place ∷ []) (completion p)) (promoted place pending ++ []) (promoted place pending) (append-nil (promoted place pending))
       (promoted-all (λ p. HasCause board (h ++ Promoted place ∷ []) (completion p)) place pending all))
+  causes (Settled clock rate) follows =
+      let h' = h ++ Settled clock rate ∷ [] in
+      let pending = pending_sets board (deeds board h) in
+      causes-more board h (Settled clock rate) legal had (λ change is. absurd (cc))
+      (λ all.
+      All-same (λ p. HasCause board h' (completion p)) (map (settled clock rate) pending ++ []) (map (settled clock rate) pending) (append-nil (map (settled clock rate) pending))
+      (All-map (λ p. HasCause board h' (completion p)) (settled clock rate) pending
+      (All-weaker (λ p. HasCause board h (completion p)) (λ p. HasCause board h' (completion (settled clock rate p))) (λ p. cause-settled board h clock rate p.agent follows.1 p.setting) pending had.pending)))
   causes (Reported effect) follows =
       let pending = pending_sets board (deeds board h) in
       causes-more board h (Reported effect) legal had

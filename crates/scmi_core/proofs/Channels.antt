@@ -22,7 +22,7 @@ use Rattle.scmi_power.specs.PowerTable.{notification}
 use Rattle.scmi_power.proofs.PowerLaws.{power_laws}
 use Rattle.scmi_core.specs.declared.event.Event.{Event}
 use Rattle.scmi_codec.specs.declared.fault.Fault.{Fault}
-use Rattle.scmi_core.specs.declared.event.Event.TheVariants.{Command, Advance, Sent, CommandFailed, AdvanceFailed, Restarted, Promoted, Reported}
+use Rattle.scmi_core.specs.declared.event.Event.TheVariants.{Command, Advance, Sent, CommandFailed, AdvanceFailed, Restarted, Promoted, Settled, Reported}
 use Rattle.scmi_core.specs.declared.pending_set.PendingSet.{PendingSet}
 use Rattle.scmi_core.specs.declared.pending_set.Setting.{Setting}
 use Rattle.scmi_core.specs.declared.pending_set.Setting.TheVariants as setting
@@ -32,7 +32,7 @@ use Rattle.scmi_core.specs.Deed.{Deed, fold_with_prefix, success_of, success_wit
 use Rattle.scmi_core.specs.History.{answer_to, deed_after, deeds, made_for, outbox}
 use Rattle.scmi_core.specs.Legal.{IsLegal}
 use Rattle.scmi_core.specs.Outbox.{failed_response_for, failed_response_to, failed_words, is_restart_of, made_in, message_with, messages_left, messages_made, notice_in, response_for, response_to, sent_count, situation_after, state_changed}
-use Rattle.scmi_core.specs.Pending.{acceptance, promoted, sets_by, unwanted}
+use Rattle.scmi_core.specs.Pending.{acceptance, promoted, sets_by, settled, unwanted}
 use Rattle.scmi_core.specs.ReadCommand.{command_on}
 use Rattle.scmi_core.specs.Reply.{fits_channel, reply_words}
 use Rattle.scmi_core.specs.Situation.{Situation, power_view}
@@ -78,6 +78,7 @@ one-answer board a h (AdvanceFailed fault) law = All-nil (IsAnswerWithin board a
 one-answer board a h (Sent c) law = All-nil (IsAnswerWithin board a)
 one-answer board a h (Restarted c) law = All-nil (IsAnswerWithin board a)
 one-answer board a h (Promoted place) law = All-nil (IsAnswerWithin board a)
+one-answer board a h (Settled clock rate) law = All-nil (IsAnswerWithin board a)
 one-answer board a h (Reported effect) law = All-nil (IsAnswerWithin board a)
 
 answers_of : (board : Board) (a : ℕ) {h : List Event} → IsValid board → Grown h → All (IsAnswerWithin board a) (answers_to board a h)
@@ -176,6 +177,7 @@ module _ (board : Board) (b : ℕ) (s : Situation) (quiet : IsUnsent b s) where
   no-response (Sent a) = refl
   no-response (Restarted a) = refl
   no-response (Promoted place) = refl
+  no-response (Settled clock rate) = refl
   no-response (Reported effect) = refl
 
   no-failure : (e : Event) → option_map_or (failed_response_for b (fault_in e)) (failed_in s.pending e) [] ≡ []
@@ -186,6 +188,7 @@ module _ (board : Board) (b : ℕ) (s : Situation) (quiet : IsUnsent b s) where
   no-failure (Sent a) = refl
   no-failure (Restarted a) = refl
   no-failure (Promoted place) = refl
+  no-failure (Settled clock rate) = refl
   no-failure (Reported effect) = refl
 
   untold : (x : Bool) (m : Message) → (if x && false then m ∷ [] else []) ≡ []
@@ -275,6 +278,7 @@ module _ (board : Board) (b : ℕ) (one_way : IsOneWay board b) where
     unsubscribed (Sent a) d = quiet.subscribed d
     unsubscribed (Reported effect) d = quiet.subscribed d
     unsubscribed (Promoted place) d = quiet.subscribed d
+    unsubscribed (Settled clock rate) d = quiet.subscribed d
     unsubscribed (Restarted a) d = by (a == b) where
       by : (own : Bool) → unwrap_or (option_or (if own then Some false else None) None) (s.subscribed d) ≡ false
       by true = refl
@@ -303,6 +307,9 @@ module _ (board : Board) (b : ℕ) (one_way : IsOneWay board b) where
     not-pending (Promoted place) =
         subst (All (λ p. (p.agent == b) ≡ false)) (sym (append-nil (promoted place s.pending)))
         (promoted-all (λ p. (p.agent == b) ≡ false) place s.pending quiet.pending)
+    not-pending (Settled clock rate) =
+        subst (All (λ p. (p.agent == b) ≡ false)) (sym (append-nil (map (settled clock rate) s.pending)))
+        (All-map (λ p. (p.agent == b) ≡ false) (settled clock rate) s.pending quiet.pending)
     not-pending Advance = All-drop (λ p. (p.agent == b) ≡ false) 1 s.pending quiet.pending
     not-pending (AdvanceFailed fault) = All-drop (λ p. (p.agent == b) ≡ false) 1 s.pending quiet.pending
 

@@ -1,5 +1,5 @@
 -- What one more deed adds to subscriptions, pending sets and outboxes, and when a history stays legal.
-use Rattle.std.proofs.Common.{◌≡◌, ℕ, zero, suc, ◌+◌, ◌≤◌, true, false, List, [], ◌∷◌, ◌++◌, length, take, drop, map, slice_get, Option, Some, None, Bool, unwrap_or, refl, sym, ap, ◌∙◌, subst, arith, if◌then◌else◌}
+use Rattle.std.proofs.Common.{◌≡◌, ℕ, zero, suc, ◌+◌, ◌≤◌, true, false, List, [], ◌∷◌, ◌++◌, length, take, drop, slice_get, Option, Some, None, Bool, unwrap_or, refl, sym, ap, ◌∙◌, subst, arith, if◌then◌else◌}
 use Rattle.std.specs.List.{filter_map, cons_option}
 use Rattle.std.proofs.lemmas.List.{append_assoc, append-nil, drop-append-le, drop-drop, drop_at, length-append, length-map, length-take-le, same_from_push, take-append-drop, take-append-le, take_at}
 use Rattle.std.proofs.lemmas.List.Elements.{filter_map-append}
@@ -10,14 +10,14 @@ use Rattle.scmi_base.specs.Permission.{is_allowed}
 use Rattle.scmi_core.specs.declared.event.Event.{Event}
 use Rattle.scmi_codec.specs.declared.fault.Fault.{Fault}
 use Rattle.scmi_core.specs.declared.pending_set.PendingSet.{PendingSet}
-use Rattle.scmi_core.specs.declared.event.Event.TheVariants.{Command, Advance, Sent, CommandFailed, AdvanceFailed, Restarted, Promoted, Reported}
+use Rattle.scmi_core.specs.declared.event.Event.TheVariants.{Command, Advance, Sent, CommandFailed, AdvanceFailed, Restarted, Promoted, Settled, Reported}
 use Rattle.std.specs.Option.{option_to_list, option_and_then, option_map_or}
-use Rattle.scmi_core.specs.Deed.{Deed, Success, fold_with_prefix, latest, promoted_by, restarted_by, successes, success_at}
+use Rattle.scmi_core.specs.Deed.{Deed, Success, fold_with_prefix, latest, successes, success_at}
 use Rattle.scmi_core.specs.Value.{Thing, changes, change_by, commanded_by, commanded_changes, completed_set, failed_set, fault_in, value, value_at_start, value_in}
 use Rattle.scmi_plan.specs.declared.scope.Scope.{Scope}
 use Rattle.scmi_core.specs.Permissions.{has_permission, permission_in}
 use Rattle.scmi_core.specs.Subscriptions.{subscription_at, is_subscriber}
-use Rattle.scmi_core.specs.Pending.{acceptance, accepted_sets, advances, is_advance, pending_left, pending_sets, promoted, sets_left, unwanted}
+use Rattle.scmi_core.specs.Pending.{PendingChange, First, Settled as Gives, Unwanted, acceptance, accepted_sets, advances, is_advance, pending_change, pending_left, pending_sets, sets_left, settled, unwanted}
 use Rattle.scmi_core.specs.Outbox.{failed_response_for, is_restart_of, messages_left, messages_made, made_by, made_in, outbox_after, sent_count, is_sent_by, situation_with}
 use Rattle.scmi_core.specs.Legal.{IsLegal, CanFollow}
 use Rattle.scmi_core.proofs.Promotions.{promoted-length}
@@ -80,10 +80,10 @@ pub is_subscriber-push : (board : Board) (a d : ℕ) (h : List Deed) (deed : Dee
 is_subscriber-push board a d h deed = latest-filter_map (subscription_at board a d) false h (Some deed)
 
 pub accepted_sets-push : (board : Board) (h : List Deed) (deed : Deed) → accepted_sets board (h ++ deed ∷ [])
-    ≡ sets_left (advances h) (restarted_by deed.event) (promoted_by deed.event) (accepted_sets board h) ++ option_to_list (option_and_then (acceptance board) (added_success board deed))
+    ≡ sets_left (advances h) (pending_change deed.event) (accepted_sets board h) ++ option_to_list (option_and_then (acceptance board) (added_success board deed))
 accepted_sets-push board h deed =
     fold_with_prefix-push
-    (λ before so_far x. sets_left (advances before) (restarted_by x.event) (promoted_by x.event) so_far ++ option_to_list (option_and_then (acceptance board) (added_success board x)))
+    (λ before so_far x. sets_left (advances before) (pending_change x.event) so_far ++ option_to_list (option_and_then (acceptance board) (added_success board x)))
     [] [] h deed
 
 -- a list with other items from a place on, and as many
@@ -99,24 +99,27 @@ same-before : (n : ℕ) (xs ys more : List PendingSet) → n ≤ length xs → t
 same-before n xs ys more enough =
     ap (take n) (append_assoc (take n xs) ys more) ∙ take_at (take n xs) (ys ++ more) n (length-take-le n xs enough)
 
--- a restart and a promotion leave as many sets
-pub sets_left-length : (ended : ℕ) (restarted promotion : Option ℕ) (sets : List PendingSet) → length (sets_left ended restarted promotion sets) ≡ length sets
-sets_left-length ended None None sets = refl
-sets_left-length ended None (Some place) sets = as-long ended sets (promoted place (drop ended sets)) (promoted-length place (drop ended sets))
-sets_left-length ended (Some a) promotion sets = as-long ended sets (map (unwanted a) (drop ended sets)) (length-map (drop ended sets) (unwanted a))
+-- a restart, a promotion and a settled rate leave as many sets
+pending_left-length : (change : Option PendingChange) (sets : List PendingSet) → length (pending_left change sets) ≡ length sets
+pending_left-length None sets = refl
+pending_left-length (Some (Unwanted a)) sets = length-map sets (unwanted a)
+pending_left-length (Some (First place)) sets = promoted-length place sets
+pending_left-length (Some (Gives clock rate)) sets = length-map sets (settled clock rate)
+
+pub sets_left-length : (ended : ℕ) (change : Option PendingChange) (sets : List PendingSet) → length (sets_left ended change sets) ≡ length sets
+sets_left-length ended None sets = refl
+sets_left-length ended (Some change) sets = as-long ended sets (pending_left (Some change) (drop ended sets)) (pending_left-length (Some change) (drop ended sets))
 
 -- those that ended as they were
-pub sets_left-ended : (ended : ℕ) (restarted promotion : Option ℕ) (sets more : List PendingSet) → ended ≤ length sets
-    → take ended (sets_left ended restarted promotion sets ++ more) ≡ take ended sets
-sets_left-ended ended None None sets more enough = take-append-le ended sets more enough
-sets_left-ended ended None (Some place) sets more enough = same-before ended sets (promoted place (drop ended sets)) more enough
-sets_left-ended ended (Some a) promotion sets more enough = same-before ended sets (map (unwanted a) (drop ended sets)) more enough
+pub sets_left-ended : (ended : ℕ) (change : Option PendingChange) (sets more : List PendingSet) → ended ≤ length sets
+    → take ended (sets_left ended change sets ++ more) ≡ take ended sets
+sets_left-ended ended None sets more enough = take-append-le ended sets more enough
+sets_left-ended ended (Some change) sets more enough = same-before ended sets (pending_left (Some change) (drop ended sets)) more enough
 
-sets_left-pending : (ended : ℕ) (restarted promotion : Option ℕ) (sets : List PendingSet) → ended ≤ length sets
-    → drop ended (sets_left ended restarted promotion sets) ≡ pending_left restarted promotion (drop ended sets)
-sets_left-pending ended None None sets enough = refl
-sets_left-pending ended None (Some place) sets enough = drop_at (take ended sets) (promoted place (drop ended sets)) ended (length-take-le ended sets enough)
-sets_left-pending ended (Some a) promotion sets enough = drop_at (take ended sets) (map (unwanted a) (drop ended sets)) ended (length-take-le ended sets enough)
+sets_left-pending : (ended : ℕ) (change : Option PendingChange) (sets : List PendingSet) → ended ≤ length sets
+    → drop ended (sets_left ended change sets) ≡ pending_left change (drop ended sets)
+sets_left-pending ended None sets enough = refl
+sets_left-pending ended (Some change) sets enough = drop_at (take ended sets) (pending_left (Some change) (drop ended sets)) ended (length-take-le ended sets enough)
 
 pub messages_made-push : (board : Board) (a : ℕ) (h : List Deed) (deed : Deed) → messages_made board a (h ++ deed ∷ [])
     ≡ messages_left (sent_count a h) (is_restart_of a deed.event) (messages_made board a h) ++ made_by board a h (messages_made board a h) deed
@@ -154,19 +157,19 @@ made_by-unfailed board a h so_far deed none =
 pub advances-push : (h : List Deed) (deed : Deed) → advances (h ++ deed ∷ []) ≡ advances h + (if is_advance deed.event then 1 else 0)
 advances-push h deed = fold-append (λ n e. n + (if is_advance e.event then 1 else 0)) 0 h (deed ∷ [])
 
--- an event that is no Advance leaves the pending sets, though a restart makes some unwanted and a promotion puts one first, and may add one
+-- an event that is no Advance leaves the pending sets, though a restart makes some unwanted, a promotion puts one first and a settled rate is that of one, and may add one
 pub pending_sets-push : (board : Board) (h : List Deed) (deed : Deed) → is_advance deed.event ≡ false → advances h ≤ length (accepted_sets board h)
-    → pending_sets board (h ++ deed ∷ []) ≡ pending_left (restarted_by deed.event) (promoted_by deed.event) (pending_sets board h) ++ option_to_list (option_and_then (acceptance board) (added_success board deed))
+    → pending_sets board (h ++ deed ∷ []) ≡ pending_left (pending_change deed.event) (pending_sets board h) ++ option_to_list (option_and_then (acceptance board) (added_success board deed))
 pending_sets-push board h deed other enough =
     let zero_more : advances h + 0 ≡ advances h = omega arith in
     let same : advances (h ++ deed ∷ []) ≡ advances h = advances-push h deed ∙ ap (λ b. advances h + (if b then 1 else 0)) other ∙ zero_more in
-    let left = sets_left (advances h) (restarted_by deed.event) (promoted_by deed.event) (accepted_sets board h) in
-    let size = sets_left-length (advances h) (restarted_by deed.event) (promoted_by deed.event) (accepted_sets board h) in
+    let left = sets_left (advances h) (pending_change deed.event) (accepted_sets board h) in
+    let size = sets_left-length (advances h) (pending_change deed.event) (accepted_sets board h) in
     let more = option_to_list (option_and_then (acceptance board) (added_success board deed)) in
     ap (λ n. drop n (accepted_sets board (h ++ deed ∷ []))) same
     ∙ ap (drop (advances h)) (accepted_sets-push board h deed)
     ∙ drop-append-le (advances h) left more (omega arith)
-    ∙ ap (λ sets. sets ++ more) (sets_left-pending (advances h) (restarted_by deed.event) (promoted_by deed.event) (accepted_sets board h) enough)
+    ∙ ap (λ sets. sets ++ more) (sets_left-pending (advances h) (pending_change deed.event) (accepted_sets board h) enough)
 
 abbrev advance : Deed
 advance = record { event = Advance; reply = [] }
@@ -229,6 +232,7 @@ sent_only a Advance own = absurd (cc)
 sent_only a (AdvanceFailed fault) own = absurd (cc)
 sent_only a (Restarted b) own = absurd (cc)
 sent_only a (Promoted place) own = absurd (cc)
+sent_only a (Settled clock rate) own = absurd (cc)
 sent_only a (Reported effect) own = absurd (cc)
 
 -- a Sent of a posts the first message of a's outbox

@@ -6,7 +6,7 @@ use Rattle.std.proofs.lemmas.List.{append_assoc, append-nil, map-append}
 use Rattle.std.proofs.lemmas.List.Elements.{All-pop}
 use Rattle.scmi_codec.specs.Header.{HeaderFields}
 use Rattle.scmi_codec.specs.declared.frame.Frame.TheVariants.{Good, Malformed}
-use Rattle.scmi_core.specs.declared.event.Event.TheVariants.{Advance, AdvanceFailed, Command, CommandFailed, Promoted, Reported, Restarted, Sent}
+use Rattle.scmi_core.specs.declared.event.Event.TheVariants.{Advance, AdvanceFailed, Command, CommandFailed, Promoted, Reported, Restarted, Sent, Settled}
 use Rattle.scmi_codec.specs.Payload.{if_success}
 use Rattle.scmi_codec.specs.declared.command.Command.TheVariants.{Power, Clock}
 use Rattle.scmi_codec.specs.declared.power_command.PowerCommand.{PowerCommand}
@@ -18,7 +18,7 @@ use Rattle.scmi_plan.specs.declared.effect.Effect.{Effect}
 use Rattle.scmi_core.specs.declared.event.Event.{Event}
 use Rattle.scmi_codec.specs.declared.fault.Fault.{Fault}
 use Rattle.scmi_plan.specs.declared.effect.Effect.TheVariants as effect
-use Rattle.scmi_core.specs.Deed.{fold_with_prefix, promoted_by, restarted_by, success_of}
+use Rattle.scmi_core.specs.Deed.{fold_with_prefix, restarted_by, success_of}
 use Rattle.scmi_core.specs.Asked.{Asked, IsAsked, Made, Refused, and_asked, made_of}
 use Rattle.scmi_core.specs.Driven.{HappensOn, HappensThere, HasMade, IsDriven, ask_after, asks, asks_from}
 use Rattle.scmi_core.specs.Standing.{Standing}
@@ -29,7 +29,7 @@ use Rattle.scmi_core.specs.History.{deeds, deed_after}
 use Rattle.scmi_core.specs.Value.{Change, bit_value, change_by, change_of, changes, commanded_by, commanded_changes, completion}
 use Rattle.scmi_core.specs.Legal.{IsLegal}
 use Rattle.scmi_core.specs.Plain.{IsNoReport}
-use Rattle.scmi_core.specs.Pending.{acceptance, is_advance, pending_left, pending_sets}
+use Rattle.scmi_core.specs.Pending.{Unwanted, acceptance, is_advance, pending_change, pending_left, pending_sets}
 use Rattle.scmi_core.specs.declared.pending_set.PendingSet.{PendingSet}
 use Rattle.scmi_core.proofs.Deeds.{added_success, changes-push, commanded_changes-push, pending_sets-push}
 use Rattle.scmi_core.proofs.Legal.{Grown, advances_le-accepted, deed-event, deeds-push, empty, grow, grown}
@@ -76,6 +76,7 @@ commanded-is board h (AdvanceFailed fault) other = refl
 commanded-is board h (Sent a) other = refl
 commanded-is board h (Restarted a) other = refl
 commanded-is board h (Promoted place) other = refl
+commanded-is board h (Settled clock rate) other = refl
 commanded-is board h (Reported effect) other = elim other [ ]
 
 and_asked-append : (asks : List Asked) (ask : Option Asked) → and_asked asks ask ≡ asks ++ option_to_list ask
@@ -155,6 +156,7 @@ made_after board h (CommandFailed a (Malformed len header) fault) = refl
 made_after board h (AdvanceFailed fault) = refused fault (effect_after board h Advance)
 made_after board h (Restarted a) = refl
 made_after board h (Promoted place) = refl
+made_after board h (Settled clock rate) = refl
 made_after board h (Reported effect) = refl
 
 made_from : (board : Board) (before h : List Event) → commanded_effects board before ++ made_of (asks_from board before h) ≡ commanded_effects board (before ++ h)
@@ -213,21 +215,21 @@ clock-effect board a header c reply =
       mapped (Some set) enabled = refl
 
 -- the first of some sets stays the first, and a restart leaves what it is to change
-first-kept : (restarted : Option ℕ) (xs ys : List PendingSet) → 0 < length xs → option_map completion (slice_get (pending_left restarted None xs ++ ys) 0) ≡ option_map completion (slice_get xs 0)
+first-kept : (restarted : Option ℕ) (xs ys : List PendingSet) → 0 < length xs → option_map completion (slice_get (pending_left (option_map Unwanted restarted) xs ++ ys) 0) ≡ option_map completion (slice_get xs 0)
 first-kept None [] ys some = elim some [ ]
 first-kept None (x ∷ xs) ys some = refl
 first-kept (Some a) [] ys some = elim some [ ]
 first-kept (Some a) (x ∷ xs) ys some = refl
 
--- while a set is pending, no other event but a promotion changes what the next completion is to change
-pub advance-kept : (board : Board) (h : List Event) (e : Event) → IsLegal board h → is_advance e ≡ false → promoted_by e ≡ None → 0 < length (pending_sets board (deeds board h))
+-- while a set is pending, no other event but a promotion and a settled rate changes what the next completion is to change
+pub advance-kept : (board : Board) (h : List Event) (e : Event) → IsLegal board h → is_advance e ≡ false → pending_change e ≡ option_map Unwanted (restarted_by e) → 0 < length (pending_sets board (deeds board h))
     → effect_after board (h ++ e ∷ []) Advance ≡ effect_after board h Advance
-advance-kept board h e legal other unpromoted some =
+advance-kept board h e legal other unchanged some =
     let ds = deeds board h in
     let deed = deed_after board ds e in
     ap (λ ds'. option_map effect_of (option_or (option_map completion (slice_get (pending_sets board ds') 0)) None)) (deeds-push board h e)
     ∙ ap (λ p. option_map effect_of (option_or (option_map completion (slice_get p 0)) None))
     (pending_sets-push board ds deed (ap is_advance (deed-event board ds e) ∙ other) (advances_le-accepted board h legal))
-    ∙ ap (λ promotion. option_map effect_of (option_or (option_map completion (slice_get (pending_left (restarted_by deed.event) promotion (pending_sets board ds) ++ option_to_list (option_and_then (acceptance board) (added_success board deed))) 0)) None))
-    (ap promoted_by (deed-event board ds e) ∙ unpromoted)
-    ∙ ap (λ o. option_map effect_of (option_or o None)) (first-kept (restarted_by deed.event) (pending_sets board ds) (option_to_list (option_and_then (acceptance board) (added_success board deed))) some)
+    ∙ ap (λ change. option_map effect_of (option_or (option_map completion (slice_get (pending_left change (pending_sets board ds) ++ option_to_list (option_and_then (acceptance board) (added_success board deed))) 0)) None))
+    (ap pending_change (deed-event board ds e) ∙ unchanged)
+    ∙ ap (λ o. option_map effect_of (option_or o None)) (first-kept (restarted_by e) (pending_sets board ds) (option_to_list (option_and_then (acceptance board) (added_success board deed))) some)

@@ -6,12 +6,12 @@ use Rattle.scmi_codec.specs.declared.frame.Frame.TheVariants.{Good, Malformed}
 use Rattle.scmi_codec.specs.declared.message.Message.{Message}
 use Rattle.scmi_plan.specs.Board.{Board}
 use Rattle.scmi_core.specs.declared.event.Event.{Event}
-use Rattle.scmi_core.specs.declared.event.Event.TheVariants.{Command, Advance, Sent, CommandFailed, AdvanceFailed, Restarted, Promoted, Reported}
+use Rattle.scmi_core.specs.declared.event.Event.TheVariants.{Command, Advance, Sent, CommandFailed, AdvanceFailed, Restarted, Promoted, Settled, Reported}
 use Rattle.scmi_core.specs.declared.pending_set.PendingSet.{PendingSet}
-use Rattle.scmi_core.specs.Deed.{Deed, promoted_by, restarted_by}
+use Rattle.scmi_core.specs.Deed.{Deed}
 use Rattle.scmi_core.specs.History.{deed_after}
 use Rattle.scmi_core.specs.Outbox.{failed_response_for, is_restart_of, is_sent_by, made_by, made_in, messages_left, messages_made, outbox_after, sent_count, situation_after}
-use Rattle.scmi_core.specs.Pending.{acceptance, accepted_sets, advances, is_advance, pending_left, pending_sets}
+use Rattle.scmi_core.specs.Pending.{acceptance, accepted_sets, advances, is_advance, pending_change, pending_left, pending_sets}
 use Rattle.scmi_core.specs.Permissions.{permission_in}
 use Rattle.scmi_core.specs.Reply.{words_given}
 use Rattle.scmi_core.specs.Situation.{Situation}
@@ -33,7 +33,7 @@ abbrev pub change_in : Board → List PendingSet → Deed → Option Change
 change_in board pending deed = option_or (reported deed.event) (change_of board (added_success board deed) (completed_in pending deed.event))
 
 abbrev pub pending_next : Board → List PendingSet → Deed → List PendingSet
-pending_next board pending deed = if is_advance deed.event then drop 1 pending else pending_left (restarted_by deed.event) (promoted_by deed.event) pending ++ option_to_list (option_and_then (acceptance board) (added_success board deed))
+pending_next board pending deed = if is_advance deed.event then drop 1 pending else pending_left (pending_change deed.event) pending ++ option_to_list (option_and_then (acceptance board) (added_success board deed))
 
 abbrev pub made_next : Board → ℕ → Situation → Deed → List Message
 made_next board b s deed =
@@ -59,6 +59,7 @@ completed_is board h (CommandFailed a frame fault) = refl
 completed_is board h (AdvanceFailed fault) = refl
 completed_is board h (Restarted a) = refl
 completed_is board h (Promoted place) = refl
+completed_is board h (Settled clock rate) = refl
 completed_is board h (Reported effect) = refl
 
 failed_is : (board : Board) (h : List Deed) (e : Event) → failed_set board h e ≡ failed_in (pending_sets board h) e
@@ -69,6 +70,7 @@ failed_is board h (CommandFailed a frame fault) = refl
 failed_is board h (AdvanceFailed fault) = refl
 failed_is board h (Restarted a) = refl
 failed_is board h (Promoted place) = refl
+failed_is board h (Settled clock rate) = refl
 failed_is board h (Reported effect) = refl
 
 pub change-is : (board : Board) (h : List Deed) (deed : Deed) → change_by board h deed ≡ change_in board (pending_sets board h) deed
@@ -83,6 +85,7 @@ pending-next board h (CommandFailed a (Malformed len header) fault) enough = pen
 pending-next board h (Sent a) enough = pending_sets-push board h (deed_after board h (Sent a)) refl enough
 pending-next board h (Restarted a) enough = pending_sets-push board h (deed_after board h (Restarted a)) refl enough
 pending-next board h (Promoted place) enough = pending_sets-push board h (deed_after board h (Promoted place)) refl enough
+pending-next board h (Settled clock rate) enough = pending_sets-push board h (deed_after board h (Settled clock rate)) refl enough
 pending-next board h (Reported effect) enough = pending_sets-push board h (deed_after board h (Reported effect)) refl enough
 pending-next board h Advance enough = pending_sets-advance board h
 pending-next board h (AdvanceFailed fault) enough = pending_sets-failed board h fault
@@ -128,6 +131,7 @@ module _ (board : Board) (b : ℕ) (h : List Deed) where
   outbox-next (AdvanceFailed fault) enough enough_sent = unsent (AdvanceFailed fault) refl enough enough_sent
   outbox-next (Restarted c) enough enough_sent = unsent (Restarted c) refl enough enough_sent
   outbox-next (Promoted place) enough enough_sent = unsent (Promoted place) refl enough enough_sent
+  outbox-next (Settled clock rate) enough enough_sent = unsent (Settled clock rate) refl enough enough_sent
   outbox-next (Reported effect) enough enough_sent = unsent (Reported effect) refl enough enough_sent
   outbox-next (Sent c) enough enough_sent = posted c ∙ by (b == c) where
     none : made_in b stood (stood.pending ++ []) None None ≡ []
@@ -163,4 +167,5 @@ deed-same board h k (AdvanceFailed fault) same = refl
 deed-same board h k (Sent a) same = refl
 deed-same board h k (Restarted a) same = refl
 deed-same board h k (Promoted place) same = refl
+deed-same board h k (Settled clock rate) same = refl
 deed-same board h k (Reported effect) same = refl

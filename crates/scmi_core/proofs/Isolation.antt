@@ -9,18 +9,19 @@ use Rattle.scmi_codec.specs.Payload.{begins_with_success}
 use Rattle.scmi_codec.specs.declared.frame.Frame.{Frame}
 use Rattle.scmi_codec.specs.declared.frame.Frame.TheVariants.{Good, Malformed}
 use Rattle.scmi_plan.specs.Board.{Board}
+use Rattle.scmi_plan.specs.declared.resource.Resource.TheVariants as resource
 use Rattle.scmi_core.specs.declared.event.Event.{Event}
 use Rattle.scmi_codec.specs.declared.fault.Fault.{Fault}
-use Rattle.scmi_core.specs.declared.event.Event.TheVariants.{Command, Advance, Sent, CommandFailed, AdvanceFailed, Restarted, Promoted, Reported}
+use Rattle.scmi_core.specs.declared.event.Event.TheVariants.{Command, Advance, Sent, CommandFailed, AdvanceFailed, Restarted, Promoted, Settled, Reported}
 use Rattle.scmi_core.specs.declared.pending_set.PendingSet.{PendingSet}
 use Rattle.scmi_core.specs.Agents.{answer_for, answers_to, frame_from, frames_of}
-use Rattle.scmi_core.specs.Deed.{Deed, fold_with_prefix, promoted_by, restarted_by, success_with}
+use Rattle.scmi_core.specs.Deed.{Deed, fold_with_prefix, restarted_by, success_with}
 use Rattle.scmi_core.specs.Effect.{effect_of}
 use Rattle.scmi_core.specs.History.{deed_after, deeds, delivered_messages, made_for, outbox}
 use Rattle.scmi_core.specs.Laws.{AreAlikeBut, HasIsolation, is_refused, without_refused}
 use Rattle.scmi_core.specs.Legal.{CanFollow, IsLegal}
 use Rattle.scmi_core.specs.Outbox.{failed_response_for, is_restart_of, is_sent_by, made_in, messages_left, messages_made, sent_count, situation_after}
-use Rattle.scmi_core.specs.Pending.{acceptance, is_advance, pending_left, pending_sets}
+use Rattle.scmi_core.specs.Pending.{acceptance, has_set_of, is_advance, pending_change, pending_left, pending_sets}
 use Rattle.scmi_core.specs.Permissions.{permission_in}
 use Rattle.scmi_core.specs.ReadCommand.{command_on}
 use Rattle.scmi_core.specs.Reply.{answer_in}
@@ -35,7 +36,7 @@ use Rattle.scmi_core.proofs.Situations.{nothing-made}
 
 -- A COMMAND THAT WAS REFUSED
 
--- a deed that succeeds in nothing, ends no set, posts nothing, restarts no agent, promotes no set and reports no change
+-- a deed that succeeds in nothing, ends no set, posts nothing, restarts no agent, changes no pending set and reports no change
 record IsIdleDeed (board : Board) (deed : Deed) : Type 0 where
   pub no_success : added_success board deed ≡ None
   pub stays : is_advance deed.event ≡ false
@@ -43,7 +44,7 @@ record IsIdleDeed (board : Board) (deed : Deed) : Type 0 where
   pub uncompleted : (pending : List PendingSet) → completed_in pending deed.event ≡ None
   pub unfailed : (pending : List PendingSet) → failed_in pending deed.event ≡ None
   pub unrestarted : restarted_by deed.event ≡ None
-  pub unpromoted : promoted_by deed.event ≡ None
+  pub unchanged : pending_change deed.event ≡ None
   pub unreported : reported deed.event ≡ None
 
 -- it changes nothing, and makes nothing for an agent
@@ -55,9 +56,8 @@ module _ (board : Board) (b : ℕ) (s : Situation) (deed : Deed) (idle : IsIdleD
 
   same-pending : pending_next board s.pending deed ≡ s.pending
   same-pending =
-      ap (λ ends. if ends then drop 1 s.pending else pending_left (restarted_by deed.event) (promoted_by deed.event) s.pending ++ option_to_list (option_and_then (acceptance board) (added_success board deed))) idle.stays
-      ∙ ap (λ restarted. pending_left restarted (promoted_by deed.event) s.pending ++ option_to_list (option_and_then (acceptance board) (added_success board deed))) idle.unrestarted
-      ∙ ap (λ promotion. pending_left None promotion s.pending ++ option_to_list (option_and_then (acceptance board) (added_success board deed))) idle.unpromoted
+      ap (λ ends. if ends then drop 1 s.pending else pending_left (pending_change deed.event) s.pending ++ option_to_list (option_and_then (acceptance board) (added_success board deed))) idle.stays
+      ∙ ap (λ change. pending_left change s.pending ++ option_to_list (option_and_then (acceptance board) (added_success board deed))) idle.unchanged
       ∙ ap (λ success. s.pending ++ option_to_list (option_and_then (acceptance board) success)) idle.no_success
       ∙ append-nil s.pending
 
@@ -144,14 +144,14 @@ command-idle board h c (Good m) fails = record {
   uncompleted = λ pending. refl;
   unfailed = λ pending. refl;
   unrestarted = refl;
-  unpromoted = refl;
+  unchanged = refl;
   unreported = refl;
 }
-command-idle board h c (Malformed len header) fails = record { no_success = refl; stays = refl; unsent = λ b. refl; uncompleted = λ pending. refl; unfailed = λ pending. refl; unrestarted = refl; unpromoted = refl; unreported = refl }
+command-idle board h c (Malformed len header) fails = record { no_success = refl; stays = refl; unsent = λ b. refl; uncompleted = λ pending. refl; unfailed = λ pending. refl; unrestarted = refl; unchanged = refl; unreported = refl }
 
 failed-idle : (board : Board) (h : List Event) (c : ℕ) (frame : Frame) (fault : Fault) → IsIdleDeed board (deed_after board (deeds board h) (CommandFailed c frame fault))
-failed-idle board h c (Good m) fault = record { no_success = refl; stays = refl; unsent = λ b. refl; uncompleted = λ pending. refl; unfailed = λ pending. refl; unrestarted = refl; unpromoted = refl; unreported = refl }
-failed-idle board h c (Malformed len header) fault = record { no_success = refl; stays = refl; unsent = λ b. refl; uncompleted = λ pending. refl; unfailed = λ pending. refl; unrestarted = refl; unpromoted = refl; unreported = refl }
+failed-idle board h c (Good m) fault = record { no_success = refl; stays = refl; unsent = λ b. refl; uncompleted = λ pending. refl; unfailed = λ pending. refl; unrestarted = refl; unchanged = refl; unreported = refl }
+failed-idle board h c (Malformed len header) fault = record { no_success = refl; stays = refl; unsent = λ b. refl; uncompleted = λ pending. refl; unfailed = λ pending. refl; unrestarted = refl; unchanged = refl; unreported = refl }
 
 refusal : (board : Board) (a : ℕ) (h : List Event) (e : Event) → is_refused board a h e ≡ true → Refused board a h e
 refusal board a h (Command c frame) is =
@@ -175,6 +175,7 @@ refusal board a h (AdvanceFailed fault) is = absurd (cc)
 refusal board a h (Sent c) is = absurd (cc)
 refusal board a h (Restarted c) is = absurd (cc)
 refusal board a h (Promoted place) is = absurd (cc)
+refusal board a h (Settled clock rate) is = absurd (cc)
 refusal board a h (Reported effect) is = absurd (cc)
 
 -- THE SAME EVENT AFTER TWO HISTORIES
@@ -208,6 +209,7 @@ module _ (board : Board) (h k : List Event) (same : (c : ℕ) → situation_afte
   one-answer b (Sent c) = refl
   one-answer b (Restarted c) = refl
   one-answer b (Promoted place) = refl
+  one-answer b (Settled clock rate) = refl
   one-answer b (Reported effect) = refl
 
   both-follow : (e : Event) → CanFollow board k e → CanFollow board h e
@@ -219,6 +221,7 @@ module _ (board : Board) (h k : List Event) (same : (c : ℕ) → situation_afte
   both-follow Advance follows = subst (λ pending. 0 < length pending) (sym one-pending) follows
   both-follow (AdvanceFailed fault) follows = subst (λ pending. 0 < length pending) (sym one-pending) follows
   both-follow (Promoted place) follows = subst (λ pending. place < length pending) (sym one-pending) follows
+  both-follow (Settled clock rate) follows = (follows.0, follows.1, subst (λ pending. has_set_of (resource.Clock clock) pending ≡ true) (sym one-pending) follows.2)
   both-follow (Sent c) follows = (follows.0, follows.1, subst (λ s. 0 < length s.outbox) (sym (same c)) follows.2)
 
 pub answers-push : (board : Board) (b : ℕ) (h : List Event) (e : Event) → answers_to board b (h ++ e ∷ []) ≡ answers_to board b h ++ answer_for board b h e

@@ -10,7 +10,7 @@ use Rattle.scmi_plan.specs.Board.{Board}
 use Rattle.scmi_plan.specs.declared.effect.Effect.{Effect}
 use Rattle.scmi_core.specs.declared.event.Event.{Event}
 use Rattle.scmi_codec.specs.declared.fault.Fault.{Fault}
-use Rattle.scmi_core.specs.declared.event.Event.TheVariants.{Command, Advance, Sent, CommandFailed, AdvanceFailed, Restarted, Promoted, Reported}
+use Rattle.scmi_core.specs.declared.event.Event.TheVariants.{Command, Advance, Sent, CommandFailed, AdvanceFailed, Restarted, Promoted, Settled, Reported}
 use Rattle.scmi_core.specs.Deed.{fold_with_prefix}
 use Rattle.scmi_core.specs.Outbox.{messages_made, sent_count, is_sent_by}
 use Rattle.scmi_core.specs.History.{answer_to, deeds, deed_after, made_for, delivered_messages, outbox}
@@ -85,6 +85,7 @@ pub data IsQuiet : Event → Type 0 where
   sent_to : (b : ℕ) → IsQuiet (Sent b)
   restarted : (b : ℕ) → IsQuiet (Restarted b)
   promoted : (place : ℕ) → IsQuiet (Promoted place)
+  settled : (clock rate : ℕ) → IsQuiet (Settled clock rate)
   reported : (effect : Effect) → IsQuiet (Reported effect)
 
 -- an event that is no command adds no frame
@@ -95,6 +96,7 @@ frames_quiet a h e (advance_failed fault) = filter_map-append (frame_from a) h (
 frames_quiet a h e (sent_to b) = filter_map-append (frame_from a) h (Sent b ∷ []) ∙ append-nil (filter_map (frame_from a) h)
 frames_quiet a h e (restarted b) = filter_map-append (frame_from a) h (Restarted b ∷ []) ∙ append-nil (filter_map (frame_from a) h)
 frames_quiet a h e (promoted place) = filter_map-append (frame_from a) h (Promoted place ∷ []) ∙ append-nil (filter_map (frame_from a) h)
+frames_quiet a h e (settled clock rate) = filter_map-append (frame_from a) h (Settled clock rate ∷ []) ∙ append-nil (filter_map (frame_from a) h)
 frames_quiet a h e (reported effect) = filter_map-append (frame_from a) h (Reported effect ∷ []) ∙ append-nil (filter_map (frame_from a) h)
 
 -- and no answer
@@ -110,6 +112,8 @@ answers_quiet board a h e (restarted b) =
     fold_with_prefix-push (λ before so_far event. so_far ++ answer_for board a before event) [] [] h (Restarted b) ∙ append-nil (answers_to board a h)
 answers_quiet board a h e (promoted place) =
     fold_with_prefix-push (λ before so_far event. so_far ++ answer_for board a before event) [] [] h (Promoted place) ∙ append-nil (answers_to board a h)
+answers_quiet board a h e (settled clock rate) =
+    fold_with_prefix-push (λ before so_far event. so_far ++ answer_for board a before event) [] [] h (Settled clock rate) ∙ append-nil (answers_to board a h)
 answers_quiet board a h e (reported effect) =
     fold_with_prefix-push (λ before so_far event. so_far ++ answer_for board a before event) [] [] h (Reported effect) ∙ append-nil (answers_to board a h)
 

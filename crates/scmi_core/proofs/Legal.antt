@@ -1,15 +1,15 @@
 -- In a legal history no more is completed than was accepted.
-use Rattle.std.proofs.Common.{◌≡◌, ◌⊎◌, inl, inr, ◌==◌, ℕ, ◌<◌, ◌≤◌, true, false, List, [], ◌∷◌, ◌++◌, length, Some, None, refl, sym, ap, ◌∙◌, subst, arith}
+use Rattle.std.proofs.Common.{◌≡◌, ◌⊎◌, inl, inr, ◌==◌, ℕ, ◌<◌, ◌≤◌, true, false, List, [], ◌∷◌, ◌++◌, length, Some, refl, sym, ap, ◌∙◌, subst, arith}
 use Rattle.std.proofs.lemmas.List.{append_assoc, length-append, length-drop}
 use Rattle.std.proofs.lemmas.Grind.{fold-append}
 use Rattle.std.proofs.lemmas.Bool.{cases_Bool, eqb-true}
 use Rattle.scmi_plan.specs.Board.{Board}
 use Rattle.scmi_codec.specs.declared.frame.Frame.TheVariants.{Good, Malformed}
 use Rattle.scmi_core.specs.declared.event.Event.{Event}
-use Rattle.scmi_core.specs.declared.event.Event.TheVariants.{Command, Advance, Sent, CommandFailed, AdvanceFailed, Restarted, Promoted, Reported}
+use Rattle.scmi_core.specs.declared.event.Event.TheVariants.{Command, Advance, Sent, CommandFailed, AdvanceFailed, Restarted, Promoted, Settled, Reported}
 use Rattle.std.specs.Option.{option_to_list, option_and_then}
 use Rattle.scmi_core.specs.Deed.{Deed}
-use Rattle.scmi_core.specs.Pending.{accepted_sets, advances, is_advance, pending_sets, acceptance, sets_left}
+use Rattle.scmi_core.specs.Pending.{First, Settled as Gives, Unwanted, accepted_sets, advances, is_advance, pending_sets, acceptance, sets_left}
 use Rattle.scmi_core.specs.Outbox.{sent_count, messages_left, messages_made, made_by, outbox_after, is_sent_by}
 use Rattle.scmi_core.specs.History.{deeds, deed_after, outbox}
 use Rattle.scmi_core.specs.Legal.{IsLegal, CanFollow}
@@ -43,6 +43,7 @@ deed-event board h (CommandFailed a (Malformed len header) fault) = refl
 deed-event board h (AdvanceFailed fault) = refl
 deed-event board h (Restarted a) = refl
 deed-event board h (Promoted place) = refl
+deed-event board h (Settled clock rate) = refl
 deed-event board h (Reported effect) = refl
 
 -- no event is in the empty history
@@ -72,11 +73,14 @@ one_more board h (Command a (Malformed len header)) enough waits =
 one_more board h (Sent a) enough waits =
     rw (advances-push, accepted_sets-push) (omega (arith, length-append (accepted_sets board h) []))
 one_more board h (Restarted a) enough waits =
-    let left = sets_left (advances h) (Some a) None (accepted_sets board h) in
-    rw (advances-push, accepted_sets-push) (omega (arith, length-append left [], sets_left-length (advances h) (Some a) None (accepted_sets board h)))
+    let left = sets_left (advances h) (Some (Unwanted a)) (accepted_sets board h) in
+    rw (advances-push, accepted_sets-push) (omega (arith, length-append left [], sets_left-length (advances h) (Some (Unwanted a)) (accepted_sets board h)))
 one_more board h (Promoted place) enough waits =
-    let left = sets_left (advances h) None (Some place) (accepted_sets board h) in
-    rw (advances-push, accepted_sets-push) (omega (arith, length-append left [], sets_left-length (advances h) None (Some place) (accepted_sets board h)))
+    let left = sets_left (advances h) (Some (First place)) (accepted_sets board h) in
+    rw (advances-push, accepted_sets-push) (omega (arith, length-append left [], sets_left-length (advances h) (Some (First place)) (accepted_sets board h)))
+one_more board h (Settled clock rate) enough waits =
+    let left = sets_left (advances h) (Some (Gives clock rate)) (accepted_sets board h) in
+    rw (advances-push, accepted_sets-push) (omega (arith, length-append left [], sets_left-length (advances h) (Some (Gives clock rate)) (accepted_sets board h)))
 one_more board h (Reported effect) enough waits =
     rw (advances-push, accepted_sets-push) (omega (arith, length-append (accepted_sets board h) []))
 one_more board h Advance enough waits =
@@ -96,6 +100,7 @@ waits_at board h (CommandFailed a frame fault) follows is = absurd (cc)
 waits_at board h (Sent a) follows is = absurd (cc)
 waits_at board h (Restarted a) follows is = absurd (cc)
 waits_at board h (Promoted place) follows is = absurd (cc)
+waits_at board h (Settled clock rate) follows is = absurd (cc)
 waits_at board h (Reported effect) follows is = absurd (cc)
 
 enough_of : (board : Board) {h : List Event} → Grown h → IsLegal board h → advances (deeds board h) ≤ length (accepted_sets board (deeds board h))
@@ -127,6 +132,8 @@ sent_more board a h (Reported effect) enough waits =
     rw (sent_count-push, messages_made-push) (omega (arith, length-append (messages_made board a h) (made_by board a h (messages_made board a h) (deed_after board h (Reported effect)))))
 sent_more board a h (Promoted place) enough waits =
     rw (sent_count-push, messages_made-push) (omega (arith, length-append (messages_made board a h) (made_by board a h (messages_made board a h) (deed_after board h (Promoted place)))))
+sent_more board a h (Settled clock rate) enough waits =
+    rw (sent_count-push, messages_made-push) (omega (arith, length-append (messages_made board a h) (made_by board a h (messages_made board a h) (deed_after board h (Settled clock rate)))))
 sent_more board a h (Restarted b) enough waits =
     let left = messages_left (sent_count a h) (a == b) (messages_made board a h) in
     rw (sent_count-push, messages_made-push)
@@ -145,6 +152,7 @@ front_at board a h (CommandFailed b frame fault) follows is = absurd (cc)
 front_at board a h (AdvanceFailed fault) follows is = absurd (cc)
 front_at board a h (Restarted b) follows is = absurd (cc)
 front_at board a h (Promoted place) follows is = absurd (cc)
+front_at board a h (Settled clock rate) follows is = absurd (cc)
 front_at board a h (Reported effect) follows is = absurd (cc)
 
 sent_of : (board : Board) (a : ℕ) {h : List Event} → Grown h → IsLegal board h → sent_count a (deeds board h) ≤ length (messages_made board a (deeds board h))

@@ -11,11 +11,11 @@ use Rattle.scmi_plan.specs.Board.{Board}
 use Rattle.scmi_core.specs.declared.pending_set.PendingSet.{PendingSet}
 use Rattle.scmi_core.specs.declared.event.Event.{Event}
 use Rattle.scmi_codec.specs.declared.fault.Fault.{Fault}
-use Rattle.scmi_core.specs.declared.event.Event.TheVariants.{Command, Advance, Sent, CommandFailed, AdvanceFailed, Restarted, Promoted, Reported}
+use Rattle.scmi_core.specs.declared.event.Event.TheVariants.{Command, Advance, Sent, CommandFailed, AdvanceFailed, Restarted, Promoted, Settled, Reported}
 use Rattle.std.specs.Option.{option_map_or, option_to_list, option_and_then}
-use Rattle.scmi_core.specs.Deed.{Deed, fold_with_prefix, promoted_by, restarted_by}
+use Rattle.scmi_core.specs.Deed.{Deed, fold_with_prefix}
 use Rattle.scmi_core.specs.Value.{Change, Thing, State, Rate, Enabled, completed_set, failed_set, fault_in, change_by}
-use Rattle.scmi_core.specs.Pending.{accepted_sets, acceptance, advances, is_advance, pending_sets, pending_of, sets_left}
+use Rattle.scmi_core.specs.Pending.{accepted_sets, acceptance, advances, is_advance, pending_change, pending_sets, pending_of, sets_left}
 use Rattle.scmi_core.specs.Outbox.{failed_response_for, failed_response_to, is_restart_of, outbox_after, messages_left, messages_made, made_by, restart_count, sent_count, response_to, response_for, notice_in, situation_after, state_changed}
 use Rattle.scmi_core.specs.Situation.{Situation}
 use Rattle.scmi_core.specs.History.{deeds, deed_after}
@@ -98,6 +98,7 @@ module _ (board : Board) (a : ℕ) (h : List Deed) where
   made_delayed (Sent b) reply = quiet (Sent b) reply refl refl
   made_delayed (Restarted b) reply = quiet (Restarted b) reply refl refl
   made_delayed (Promoted place) reply = quiet (Promoted place) reply refl refl
+  made_delayed (Settled clock rate) reply = quiet (Settled clock rate) reply refl refl
   made_delayed (Reported effect) reply = quiet (Reported effect) reply refl refl
   made_delayed Advance reply =
       let deed : Deed = record { event = Advance; reply = reply } in
@@ -121,22 +122,21 @@ endings-push board h deed = fold_with_prefix-push (λ before so_far x. so_far ++
 
 ended_sets-push : (board : Board) (h : List Deed) (deed : Deed) (o : Option PendingSet) → advances h ≤ length (accepted_sets board h)
     → (is_advance deed.event ≡ false → o ≡ None)
-    → (is_advance deed.event ≡ true → (o ≡ slice_get (pending_sets board h) 0) × (option_and_then (acceptance board) (added_success board deed) ≡ None) × (restarted_by deed.event ≡ None) × (promoted_by deed.event ≡ None))
+    → (is_advance deed.event ≡ true → (o ≡ slice_get (pending_sets board h) 0) × (option_and_then (acceptance board) (added_success board deed) ≡ None) × (pending_change deed.event ≡ None))
     → (b : Bool) → is_advance deed.event ≡ b
     → ended_sets board (h ++ deed ∷ []) ≡ ended_sets board h ++ option_to_list o
 ended_sets-push board h deed o enough stays goes false is =
     let zero_more : advances h + 0 ≡ advances h = omega arith in
     ap (λ n. take n (accepted_sets board (h ++ deed ∷ []))) (advances-push h deed ∙ ap (λ b. advances h + (if b then 1 else 0)) is ∙ zero_more)
     ∙ ap (take (advances h)) (accepted_sets-push board h deed)
-    ∙ sets_left-ended (advances h) (restarted_by deed.event) (promoted_by deed.event) (accepted_sets board h) (option_to_list (option_and_then (acceptance board) (added_success board deed))) enough
+    ∙ sets_left-ended (advances h) (pending_change deed.event) (accepted_sets board h) (option_to_list (option_and_then (acceptance board) (added_success board deed))) enough
     ∙ sym (append-nil (ended_sets board h))
     ∙ ap (λ o. ended_sets board h ++ option_to_list o) (sym (stays is))
 ended_sets-push board h deed o enough stays goes true is =
     let one_more : advances h + 1 ≡ suc (advances h) = omega arith in
     ap (λ n. take n (accepted_sets board (h ++ deed ∷ []))) (advances-push h deed ∙ ap (λ b. advances h + (if b then 1 else 0)) is ∙ one_more)
     ∙ ap (take (suc (advances h))) (accepted_sets-push board h deed
-    ∙ ap (λ restarted. sets_left (advances h) restarted (promoted_by deed.event) (accepted_sets board h) ++ option_to_list (option_and_then (acceptance board) (added_success board deed))) (goes is).2
-    ∙ ap (λ promotion. sets_left (advances h) None promotion (accepted_sets board h) ++ option_to_list (option_and_then (acceptance board) (added_success board deed))) (goes is).3
+    ∙ ap (λ change. sets_left (advances h) change (accepted_sets board h) ++ option_to_list (option_and_then (acceptance board) (added_success board deed))) (goes is).2
     ∙ ap (λ o. accepted_sets board h ++ option_to_list o) (goes is).1 ∙ append-nil (accepted_sets board h))
     ∙ take-one (advances h) (accepted_sets board h)
     ∙ ap (λ o. ended_sets board h ++ option_to_list o) (sym (goes is).0)
@@ -165,13 +165,14 @@ ended_sets-more board h (CommandFailed b (Malformed len header) fault) enough = 
 ended_sets-more board h (Sent b) enough = ended_sets-push board h (deed_after board h (Sent b)) None enough (λ is. refl) (λ is. absurd (cc)) false refl
 ended_sets-more board h (Restarted b) enough = ended_sets-push board h (deed_after board h (Restarted b)) None enough (λ is. refl) (λ is. absurd (cc)) false refl
 ended_sets-more board h (Promoted place) enough = ended_sets-push board h (deed_after board h (Promoted place)) None enough (λ is. refl) (λ is. absurd (cc)) false refl
+ended_sets-more board h (Settled clock rate) enough = ended_sets-push board h (deed_after board h (Settled clock rate)) None enough (λ is. refl) (λ is. absurd (cc)) false refl
 ended_sets-more board h (Reported effect) enough = ended_sets-push board h (deed_after board h (Reported effect)) None enough (λ is. refl) (λ is. absurd (cc)) false refl
 ended_sets-more board h Advance enough =
     ended_sets-push board h (deed_after board h Advance) (ended (ending_by board h Advance)) enough (λ is. absurd (cc))
-    (λ is. (ended_map (λ p. record { set = p; fault = None }) (λ p. refl) (slice_get (pending_sets board h) 0), refl, refl, refl)) true refl
+    (λ is. (ended_map (λ p. record { set = p; fault = None }) (λ p. refl) (slice_get (pending_sets board h) 0), refl, refl)) true refl
 ended_sets-more board h (AdvanceFailed fault) enough =
     ended_sets-push board h (deed_after board h (AdvanceFailed fault)) (ended (ending_by board h (AdvanceFailed fault))) enough (λ is. absurd (cc))
-    (λ is. (ended_map (λ p. record { set = p; fault = Some fault }) (λ p. refl) (slice_get (pending_sets board h) 0), refl, refl, refl)) true refl
+    (λ is. (ended_map (λ p. record { set = p; fault = Some fault }) (λ p. refl) (slice_get (pending_sets board h) 0), refl, refl)) true refl
 
 responses_for-push : (board : Board) (a : ℕ) (h : List Deed) (deed : Deed)
     → responses_for board a (h ++ deed ∷ [])

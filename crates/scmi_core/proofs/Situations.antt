@@ -25,7 +25,7 @@ use Rattle.scmi_clock.specs.ClockReply.{clock_reply}
 use Rattle.scmi_clock.specs.ClockTable as clock_table
 use Rattle.scmi_core.specs.declared.tables.Tables.{Tables}
 use Rattle.scmi_core.specs.declared.pending_set.PendingSet.{PendingSet}
-use Rattle.scmi_core.specs.declared.event.Event.TheVariants.{Promoted, Restarted, Sent}
+use Rattle.scmi_core.specs.declared.event.Event.TheVariants.{Promoted, Restarted, Sent, Settled}
 use Rattle.scmi_core.specs.Deed.{Deed}
 use Rattle.scmi_core.specs.Value.{Change, Thing, State, Rate, Enabled, bit_value}
 use Rattle.scmi_core.specs.Pending.{has_room_beside, has_set_of, pending_sets, sets_by}
@@ -84,6 +84,15 @@ pub outbox-promoted : (board : Board) (a : ℕ) (h : List Deed) (place : ℕ) �
     → outbox_after board a (h ++ record { event = Promoted place; reply = [] } ∷ []) ≡ outbox_after board a h
 outbox-promoted board a h place enough =
     let deed : Deed = record { event = Promoted place; reply = [] } in
+    outbox-push board a h deed refl enough
+    ∙ ap (λ ys. outbox_after board a h ++ ys) (nothing-made a (situation_after board a h) (pending_sets board (h ++ deed ∷ [])))
+    ∙ append-nil (outbox_after board a h)
+
+-- and so does a settled rate
+pub outbox-settled : (board : Board) (a : ℕ) (h : List Deed) (clock rate : ℕ) → sent_count a h ≤ length (messages_made board a h)
+    → outbox_after board a (h ++ record { event = Settled clock rate; reply = [] } ∷ []) ≡ outbox_after board a h
+outbox-settled board a h clock rate enough =
+    let deed : Deed = record { event = Settled clock rate; reply = [] } in
     outbox-push board a h deed refl enough
     ∙ ap (λ ys. outbox_after board a h ++ ys) (nothing-made a (situation_after board a h) (pending_sets board (h ++ deed ∷ [])))
     ∙ append-nil (outbox_after board a h)

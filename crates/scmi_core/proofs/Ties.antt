@@ -17,31 +17,35 @@ use Rattle.scmi_plan.specs.Plan.{IsValid}
 use Rattle.scmi_base.specs.Permission.{is_allowed}
 use Rattle.scmi_power.specs.PowerTable.{state_at, is_subscribed}
 use Rattle.scmi_clock.specs.ClockTable.{rate_at, enabled_at}
+use Rattle.scmi_plan.specs.declared.resource.Resource.TheVariants as resource
 use Rattle.scmi_core.specs.declared.pending_set.PendingSet.{PendingSet}
+use Rattle.scmi_core.specs.declared.pending_set.Setting.{Setting}
+use Rattle.scmi_core.specs.declared.pending_set.Setting.TheVariants as setting
 use Rattle.scmi_core.specs.declared.event.Event.{Event}
 use Rattle.scmi_codec.specs.declared.fault.Fault.{Fault}
-use Rattle.scmi_core.specs.declared.event.Event.TheVariants.{Command, Advance, Sent, CommandFailed, AdvanceFailed, Restarted, Promoted}
+use Rattle.scmi_core.specs.declared.event.Event.TheVariants.{Command, Advance, Sent, CommandFailed, AdvanceFailed, Restarted, Promoted, Settled}
 use Rattle.scmi_core.specs.declared.tables.Tables.{Tables}
 use Rattle.std.specs.Option.{option_to_list, option_and_then, option_map_or, option_or}
 use Rattle.scmi_core.specs.Deed.{Deed, restarted_by, success_with, fold_with_prefix, success_of}
 use Rattle.scmi_core.specs.Permissions.{permission_in, has_permission}
 use Rattle.scmi_core.specs.Subscriptions.{subscription, subscription_after_reset, is_subscriber}
-use Rattle.scmi_core.specs.Value.{value, change_by, commanded_by, completed_set, failed_set, reported, Thing, State, Rate, Enabled, bit_value, value_in, value_at_start, change_of}
-use Rattle.scmi_core.specs.Pending.{acceptance, pending_sets, promoted, unwanted}
+use Rattle.scmi_core.specs.Value.{value, change_by, commanded_by, completed_set, failed_set, reported, Thing, State, Rate, Enabled, bit_value, set_to_change, value_in, value_at_start, change_of}
+use Rattle.scmi_core.specs.Pending.{acceptance, has_set_of, pending_sets, promoted, setting_with, settled, unwanted}
 use Rattle.scmi_core.specs.Outbox.{failed_response_for, failed_words, message_with, messages_made, made_by, made_in, outbox_after, sent_count, is_sent_by, situation_after}
-use Rattle.scmi_core.specs.History.{HasPendingAt, IsIdle, answer_to, deeds, outbox}
+use Rattle.scmi_core.specs.History.{CanSettle, HasPendingAt, IsIdle, answer_to, deeds, outbox}
 use Rattle.scmi_core.specs.Legal.{CanFollow, IsLegal}
 use Rattle.scmi_core.specs.Effect.{effect_after, effect_in, effect_of, effect_read}
 use Rattle.scmi_core.specs.ReadCommand.{command_on}
 use Rattle.scmi_core.specs.Reply.{answer_in, fits_channel, reply_in, reply_words, words_given}
 use Rattle.scmi_core.specs.Outboxes.{outbox_in}
-use Rattle.scmi_core.specs.Tables.{outbox_at, situation_in, value_at, IsThing, IsOfBoard}
-use Rattle.scmi_core.specs.Step.{HasAnswered, HasFailed, HasPromoted, HasRestarted, rest_of, HasStepped}
+use Rattle.scmi_core.specs.Tables.{CanSettleIn, outbox_at, situation_in, value_at, IsThing, IsOfBoard}
+use Rattle.scmi_core.specs.Step.{HasAnswered, HasFailed, HasPromoted, HasRestarted, HasSettled, rest_of, HasStepped}
 use Rattle.scmi_core.specs.Agreement.{Agrees}
 use Rattle.scmi_core.proofs.Deeds.{added_success, made_by-unfailed, has_permission-push, is_subscriber-push, value-push, pending_sets-push, pending_sets-advance, pending_sets-failed, outbox-push, IsLegal-push, sent_count-push}
 use Rattle.scmi_core.proofs.Legal.{IsLegal-nil, deeds-push, advances_le-accepted, sent_le-made}
-use Rattle.scmi_core.proofs.Situations.{SameSituation, answer-same, messages_made-same, messages_made-sent, nothing-made, outbox-promoted, outbox-restarted, given-same, reply-same}
+use Rattle.scmi_core.proofs.Situations.{SameSituation, answer-same, messages_made-same, messages_made-sent, nothing-made, outbox-promoted, outbox-restarted, outbox-settled, given-same, reply-same}
 use Rattle.scmi_core.proofs.Promotions.{promoted-all, promoted-length}
+use Rattle.scmi_core.proofs.Settlings.{settled-all}
 
 -- the tables say of each agent what the history says
 pub same-situation : (board : Board) (t : Tables) (h : List Event) (a : ℕ) → Agrees board t h → IsValid board → 1 ≤ a → a ≤ length board.agents
@@ -367,6 +371,38 @@ promoted-waits board h place legal within = λ idle.
     ∙ append-nil (promoted place pending) in
     let none : length pending ≡ 0 = sym (promoted-length place pending) ∙ ap length (sym same ∙ idle) in
     absurd (omega (arith, none, within))
+
+-- a pending set that got another rate
+settled_known : (board : Board) (clock rate : ℕ) (p : PendingSet) → IsOfBoard board p → IsOfBoard board (settled clock rate p)
+settled_known board clock rate p had = record { first = had.first; last = had.last; thing = by p.setting had.thing } where
+  by : (s : Setting) → IsThing board (set_to_change p.agent s).thing → IsThing board (set_to_change p.agent (setting_with clock rate s)).thing
+  by (setting.State d state) known = known
+  by (setting.Rate c asked) known = known
+
+pub Agrees-settled : (board : Board) (t new : Tables) (h : List Event) (clock rate : ℕ) → Agrees board t h → CanSettleIn board t clock → HasSettled clock rate t new
+    → Agrees board new (h ++ Settled clock rate ∷ [])
+unfolding outbox
+Agrees-settled board t new h clock rate agrees may it =
+    let deed : Deed = record { event = Settled clock rate; reply = [] } in
+    let more = deeds-push board h (Settled clock rate) in
+    let follows : CanSettle board h clock = (may.0, may.1, subst (λ p. has_set_of (resource.Clock clock) p ≡ true) agrees.pending may.2) in
+    record {
+      legal = IsLegal-push board h (Settled clock rate) agrees.legal follows;
+      permissions = λ x d scope lo hi small. ap (λ b. is_allowed b x d scope) it.rest.base ∙ agrees.permissions x d scope lo hi small ∙ sym (ap (has_permission board x d scope) more ∙ has_permission-push board x d scope (deeds board h) deed);
+      subscriptions = λ x d lo hi small. ap (λ p. is_subscribed p x d) it.rest.power ∙ agrees.subscriptions x d lo hi small ∙ sym (ap (is_subscriber board x d) more ∙ is_subscriber-push board x d (deeds board h) deed);
+      values = λ x within. same_value x ∙ agrees.values x within ∙ sym (ap (value board x) more ∙ value-push board x (deeds board h) deed);
+      pending = it.pending ∙ ap (map (settled clock rate)) agrees.pending ∙ sym (append-nil (map (settled clock rate) (pending_sets board (deeds board h))))
+          ∙ sym (ap (pending_sets board) more ∙ pending_sets-push board (deeds board h) deed refl (advances_le-accepted board h agrees.legal));
+      known = subst (All (IsOfBoard board)) (sym it.pending) (settled-all (IsOfBoard board) clock rate (settled_known board clock rate) t.pending agrees.known);
+      outboxes = λ x lo hi.
+          ap (λ boxes. outbox_in boxes x) it.rest.outboxes
+          ∙ agrees.outboxes x lo hi
+          ∙ sym (ap (outbox_after board x) more ∙ outbox-settled board x (deeds board h) clock rate (sent_le-made board h agrees.legal x));
+    } where
+      same_value : (x : Thing) → value_at new x ≡ value_at t x
+      same_value (State d) = ap (λ p. state_at p d) it.rest.power
+      same_value (Rate k) = ap (λ p. rate_at p k) it.rest.clocks
+      same_value (Enabled k) = ap (λ p. bit_value (enabled_at p k)) it.rest.clocks
 
 -- the tables of a new controller
 pub Agrees-new : (board : Board) (t : Tables) → t.base ≡ board.denied → ((a d : ℕ) → is_subscribed t.power a d ≡ false)

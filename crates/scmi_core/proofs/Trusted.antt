@@ -13,7 +13,7 @@ use Rattle.scmi_plan.specs.Board.{Board}
 use Rattle.scmi_base.specs.BaseReply.{base_reply}
 use Rattle.scmi_base.proofs.BaseLaws as base_laws
 use Rattle.scmi_core.specs.declared.event.Event.{Event}
-use Rattle.scmi_core.specs.declared.event.Event.TheVariants.{Command, Advance, Sent, CommandFailed, AdvanceFailed, Restarted, Promoted, Reported}
+use Rattle.scmi_core.specs.declared.event.Event.TheVariants.{Command, Advance, Sent, CommandFailed, AdvanceFailed, Restarted, Promoted, Settled, Reported}
 use Rattle.scmi_core.specs.Deed.{fold_with_prefix, success_of, success_with, successes}
 use Rattle.scmi_core.specs.History.{deed_after, deeds}
 use Rattle.scmi_core.specs.Laws.{HasTrustedPermissions, IsTrusted}
@@ -58,6 +58,7 @@ deed-trusted board h (AdvanceFailed fault) = All-nil (IsTrusted board)
 deed-trusted board h (Sent a) = All-nil (IsTrusted board)
 deed-trusted board h (Restarted a) = All-nil (IsTrusted board)
 deed-trusted board h (Promoted place) = All-nil (IsTrusted board)
+deed-trusted board h (Settled clock rate) = All-nil (IsTrusted board)
 deed-trusted board h (Reported effect) = All-nil (IsTrusted board)
 
 trusted_of : (board : Board) {h : List Event} → Grown h → HasTrustedPermissions board h

@@ -1,4 +1,4 @@
-use Rattle.scmi_core.proofs.PlainHistories.{adds, begins, in_order, moves}
+use Rattle.scmi_core.proofs.PlainHistories.{adds, asked, begins, in_order, moves}
 use Rattle.scmi_core.proofs.plain_history.every_plain_history.Goals as goal
 
 pub returns : goal.returns
@@ -7,4 +7,5 @@ returns c = record {
   start = begins;
   platform = moves;
   order = in_order;
+  asked = asked;
 }
