@@ -168,18 +168,26 @@ later-asked board (Some s) p is =
 
 -- ONE MORE EVENT
 
-pub cause-kept : (board : Board) (h : List Event) (e : Event) (change : Change) → HasCause board h change → HasCause board (h ++ e ∷ []) change
+-- a command is the cause of a change, after these events
+pub record IsCausedAfter (board : Board) (h before : List Event) (change : Change) : Type 0 where
+  pub cause : HasCause board h change
+  pub before_is : cause.before ≡ before
+
+pub cause-kept : (board : Board) (h : List Event) (e : Event) (change : Change) (had : HasCause board h change) → IsCausedAfter board (h ++ e ∷ []) had.before change
 cause-kept board h e change had = record {
-  before = had.before;
-  message = had.message;
-  after = had.after ++ e ∷ [];
-  wanted = had.wanted;
-  place = ap (λ xs. xs ++ e ∷ []) had.place ∙ append_assoc had.before (Command change.causer (Good had.message) ∷ had.after) (e ∷ []);
-  agent = had.agent;
-  asked = had.asked;
-  given = by had.given;
-  allowed = had.allowed;
-  kept = had.kept;
+  cause = record {
+    before = had.before;
+    message = had.message;
+    after = had.after ++ e ∷ [];
+    wanted = had.wanted;
+    place = ap (λ xs. xs ++ e ∷ []) had.place ∙ append_assoc had.before (Command change.causer (Good had.message) ∷ had.after) (e ∷ []);
+    agent = had.agent;
+    asked = had.asked;
+    given = by had.given;
+    allowed = had.allowed;
+    kept = had.kept;
+  };
+  before_is = refl;
 }
   where
     by : (change ≡ had.wanted) ⊎ IsSettled board had.after had.wanted change → (change ≡ had.wanted) ⊎ IsSettled board (had.after ++ e ∷ []) had.wanted change
@@ -195,7 +203,7 @@ cause-kept board h e change had = record {
       gives = was.gives;
     })
 
--- a pending set whose rate the hardware settles is still that of its command
+-- what a pending set whose rate the hardware settles is to make came of the same command
 module _ (board : Board) (h : List Event) (clock rate a : ℕ) (free : is_free board clock ≡ true) where
   abbrev h' : List Event
   h' = h ++ Settled clock rate ∷ []
@@ -203,27 +211,33 @@ module _ (board : Board) (h : List Event) (clock rate a : ℕ) (free : is_free b
   abbrev at_rate : Change → Change
   at_rate change = record change { value = rate }
 
-  settled-rate : (c asked : ℕ) → (clock ≡ c) → HasCause board h (record { thing = Rate c; value = asked; causer = a }) → HasCause board h' (record { thing = Rate c; value = rate; causer = a })
+  abbrev IsRated : List Event → ℕ → ℕ → Bool → Type 0
+  IsRated before c asked is = IsCausedAfter board h' before (rate_given a (c, if is then rate else asked))
+
+  settled-rate : (c asked : ℕ) → clock ≡ c → (had : HasCause board h (rate_given a (c, asked))) → IsCausedAfter board h' had.before (rate_given a (c, rate))
   settled-rate c asked same had = record {
-    before = had.before;
-    message = had.message;
-    after = had.after ++ Settled clock rate ∷ [];
-    wanted = had.wanted;
-    place = ap (λ xs. xs ++ Settled clock rate ∷ []) had.place ∙ append_assoc had.before (Command a (Good had.message) ∷ had.after) (Settled clock rate ∷ []);
-    agent = had.agent;
-    asked = had.asked;
-    given = inr (record {
-      clock = clock;
-      rate = rate;
-      earlier = had.after;
-      later = [];
-      thing = sym (ap (λ x. x.thing) of) ∙ ap Rate (sym same);
-      free = free;
-      place = refl;
-      gives = of;
-    });
-    allowed = had.allowed;
-    kept = had.kept;
+    cause = record {
+      before = had.before;
+      message = had.message;
+      after = had.after ++ Settled clock rate ∷ [];
+      wanted = had.wanted;
+      place = ap (λ xs. xs ++ Settled clock rate ∷ []) had.place ∙ append_assoc had.before (Command a (Good had.message) ∷ had.after) (Settled clock rate ∷ []);
+      agent = had.agent;
+      asked = had.asked;
+      given = inr (record {
+        clock = clock;
+        rate = rate;
+        earlier = had.after;
+        later = [];
+        thing = sym (ap (λ x. x.thing) of) ∙ ap Rate (sym same);
+        free = free;
+        place = refl;
+        gives = of;
+      });
+      allowed = had.allowed;
+      kept = had.kept;
+    };
+    before_is = refl;
   }
     where
       by : (rate_given a (c, asked) ≡ had.wanted) ⊎ IsSettled board had.after had.wanted (rate_given a (c, asked)) → rate_given a (c, rate) ≡ record had.wanted { value = rate }
@@ -233,14 +247,14 @@ module _ (board : Board) (h : List Event) (clock rate a : ℕ) (free : is_free b
       of : rate_given a (c, rate) ≡ record had.wanted { value = rate }
       of = by had.given
 
-  pub cause-settled : (s : Setting) → HasCause board h (set_to_change a s) → HasCause board h' (set_to_change a (setting_with clock rate s))
+  pub cause-settled : (s : Setting) (had : HasCause board h (set_to_change a s)) → IsCausedAfter board h' had.before (set_to_change a (setting_with clock rate s))
   cause-settled (setting.State d state) had = cause-kept board h (Settled clock rate) (set_to_change a (setting.State d state)) had
   cause-settled (setting.Rate c asked) had = by (eqb_tells clock c) where
-    by : (((clock == c) ≡ true) × (clock ≡ c)) ⊎ (((clock == c) ≡ false) × (clock ≢ c)) → HasCause board h' (rate_given a (c, if clock == c then rate else asked))
-    by (inl same) = subst (λ is. HasCause board h' (rate_given a (c, if is then rate else asked))) (sym same.0) (settled-rate c asked same.1 had)
-    by (inr other) = subst (λ is. HasCause board h' (rate_given a (c, if is then rate else asked))) (sym other.0) (cause-kept board h (Settled clock rate) (rate_given a (c, asked)) had)
+    by : (((clock == c) ≡ true) × (clock ≡ c)) ⊎ (((clock == c) ≡ false) × (clock ≢ c)) → IsRated had.before c asked (clock == c)
+    by (inl same) = subst (IsRated had.before c asked) (sym same.0) (settled-rate c asked same.1 had)
+    by (inr other) = subst (IsRated had.before c asked) (sym other.0) (cause-kept board h (Settled clock rate) (rate_given a (c, asked)) had)
 
-pub reported-kept : (board : Board) (h : List Event) (e : Event) (change : Change) → IsReported board h change → IsReported board (h ++ e ∷ []) change
+reported-kept : (board : Board) (h : List Event) (e : Event) (change : Change) → IsReported board h change → IsReported board (h ++ e ∷ []) change
 reported-kept board h e change had = record {
   before = had.before;
   effect = had.effect;
@@ -251,26 +265,29 @@ reported-kept board h e change had = record {
 }
 
 origin-kept : (board : Board) (h : List Event) (e : Event) (change : Change) → HasOrigin board h change → HasOrigin board (h ++ e ∷ []) change
-origin-kept board h e change (inl had) = inl (cause-kept board h e change had)
+origin-kept board h e change (inl had) = inl (cause-kept board h e change had).cause
 origin-kept board h e change (inr had) = inr (reported-kept board h e change had)
 
 -- a command is the cause of what it asked for
-cause : (board : Board) (h : List Event) (a : ℕ) (m : Message) (change : Change) → IsAgent (length board.agents) a
-    → option_and_then (change_asked board) (success_at board (Command a (Good m)) (deed_after board (deeds board h) (Command a (Good m))).reply) ≡ Some change → HasCause board (h ++ Command a (Good m) ∷ []) change
-cause board h a m change agent asked =
+pub caused : (board : Board) (h : List Event) (a : ℕ) (m : Message) (change : Change) → IsAgent (length board.agents) a
+    → option_and_then (change_asked board) (success_at board (Command a (Good m)) (deed_after board (deeds board h) (Command a (Good m))).reply) ≡ Some change → IsCausedAfter board (h ++ Command a (Good m) ∷ []) h change
+caused board h a m change agent asked =
     let is = fits (fits_channel board a m) asked in
     let back = sym is.causer in
     record {
-      before = h;
-      message = m;
-      after = [];
-      wanted = change;
-      place = ap (λ x. h ++ Command x (Good m) ∷ []) back;
-      agent = subst (IsAgent (length board.agents)) back agent;
-      asked = subst (λ x. option_and_then (change_asked board) (success_at board (Command x (Good m)) (deed_after board (deeds board h) (Command x (Good m))).reply) ≡ Some change) back asked;
-      given = inl refl;
-      allowed = subst (λ x. may_after board h x change.thing ≡ true) back is.allowed;
-      kept = is.kept;
+      cause = record {
+        before = h;
+        message = m;
+        after = [];
+        wanted = change;
+        place = ap (λ x. h ++ Command x (Good m) ∷ []) back;
+        agent = subst (IsAgent (length board.agents)) back agent;
+        asked = subst (λ x. option_and_then (change_asked board) (success_at board (Command x (Good m)) (deed_after board (deeds board h) (Command x (Good m))).reply) ≡ Some change) back asked;
+        given = inl refl;
+        allowed = subst (λ x. may_after board h x change.thing ≡ true) back is.allowed;
+        kept = is.kept;
+      };
+      before_is = refl;
     } where
       fits : (short : Bool)
           → option_and_then (change_asked board) (success_of a m.header (command_on board m) (if short then reply_words board a (situation_after board a (deeds board h)) (command_on board m) else [])) ≡ Some change
@@ -300,7 +317,7 @@ causes-more board h e legal had new left =
           (All-weaker (HasOrigin board h) (HasOrigin board (h ++ e ∷ [])) (origin-kept board h e) (changes board ds) had.changed)
           (All-option (HasOrigin board (h ++ e ∷ [])) (change_in board (pending_sets board ds) deed) new));
       pending = subst (All (λ p. HasCause board (h ++ e ∷ []) (completion p))) (sym pend) (left
-          (All-weaker (λ p. HasCause board h (completion p)) (λ p. HasCause board (h ++ e ∷ []) (completion p)) (λ p. cause-kept board h e (completion p)) (pending_sets board ds) had.pending));
+          (All-weaker (λ p. HasCause board h (completion p)) (λ p. HasCause board (h ++ e ∷ []) (completion p)) (λ p it. (cause-kept board h e (completion p) it).cause) (pending_sets board ds) had.pending));
     }
 
 -- what a completion changes its set was to make
@@ -323,11 +340,11 @@ module _ (board : Board) (h : List Event) (legal : IsLegal board h) (had : HasCa
       let success = success_at board (Command a (Good m)) (deed_after board (deeds board h) (Command a (Good m))).reply in
       let set = option_and_then (acceptance board) success in
       causes-more board h (Command a (Good m)) legal had
-      (λ change is. inl (cause board h a m change follows (now-asked board success change is)))
+      (λ change is. inl (caused board h a m change follows (now-asked board success change is)).cause)
       (λ all.
       All-append (λ p. HasCause board (h ++ Command a (Good m) ∷ []) (completion p)) (pending_sets board (deeds board h)) (option_to_list set) all
       (All-option (λ p. HasCause board (h ++ Command a (Good m) ∷ []) (completion p)) set
-      (λ p is. cause board h a m (completion p) follows (later-asked board success p is))))
+      (λ p is. (caused board h a m (completion p) follows (later-asked board success p is)).cause)))
   causes (Command a (Malformed len header)) follows = causes-idle (Command a (Malformed len header)) refl refl
   causes (CommandFailed a (Good m) fault) follows = causes-idle (CommandFailed a (Good m) fault) refl refl
   causes (CommandFailed a (Malformed len header) fault) follows = causes-idle (CommandFailed a (Malformed len header) fault) refl refl
@@ -351,7 +368,7 @@ module _ (board : Board) (h : List Event) (legal : IsLegal board h) (had : HasCa
       (λ all.
       All-same (λ p. HasCause board h' (completion p)) (map (settled clock rate) pending ++ []) (map (settled clock rate) pending) (append-nil (map (settled clock rate) pending))
       (All-map (λ p. HasCause board h' (completion p)) (settled clock rate) pending
-      (All-weaker (λ p. HasCause board h (completion p)) (λ p. HasCause board h' (completion (settled clock rate p))) (λ p. cause-settled board h clock rate p.agent follows.1 p.setting) pending had.pending)))
+      (All-weaker (λ p. HasCause board h (completion p)) (λ p. HasCause board h' (completion (settled clock rate p))) (λ p it. (cause-settled board h clock rate p.agent follows.1 p.setting it).cause) pending had.pending)))
   causes (Reported effect) follows =
       let pending = pending_sets board (deeds board h) in
       causes-more board h (Reported effect) legal had
@@ -359,7 +376,7 @@ module _ (board : Board) (h : List Event) (legal : IsLegal board h) (had : HasCa
       (λ all. All-same (λ p. HasCause board (h ++ Reported effect ∷ []) (completion p)) (pending ++ []) pending (append-nil pending) all)
   causes Advance follows =
       causes-more board h Advance legal had
-      (λ change is. inl (cause-kept board h Advance change (completed-cause board h (pending_sets board (deeds board h)) change had.pending is)))
+      (λ change is. inl (cause-kept board h Advance change (completed-cause board h (pending_sets board (deeds board h)) change had.pending is)).cause)
       (λ all. All-drop (λ p. HasCause board (h ++ Advance ∷ []) (completion p)) 1 (pending_sets board (deeds board h)) all)
   causes (AdvanceFailed fault) follows =
       causes-more board h (AdvanceFailed fault) legal had (λ change is. absurd (cc))

@@ -13,7 +13,7 @@ use Rattle.scmi_plan.specs.declared.effect.Effect.{Effect}
 use Rattle.scmi_plan.specs.declared.effect.Effect.TheVariants as effect
 use Rattle.scmi_core.specs.declared.event.Event.{Event}
 use Rattle.scmi_codec.specs.declared.fault.Fault.{Fault}
-use Rattle.scmi_core.specs.declared.event.Event.TheVariants.{Advance, AdvanceFailed, CommandFailed, Promoted, Reported, Restarted, Sent}
+use Rattle.scmi_core.specs.declared.event.Event.TheVariants.{Advance, AdvanceFailed, CommandFailed, Promoted, Reported, Restarted, Sent, Settled}
 use Rattle.scmi_core.specs.declared.outboxes.TheConstants.{OUTBOX_ROOM}
 use Rattle.scmi_core.specs.declared.pending_set.PendingSet.{PendingSet}
 use Rattle.scmi_core.specs.declared.pending_set.Setting.{Setting}
@@ -23,15 +23,16 @@ use Rattle.scmi_core.specs.Deed.{Deed}
 use Rattle.scmi_core.specs.Laws.{is_refused}
 use Rattle.scmi_core.specs.Legal.{IsLegal}
 use Rattle.scmi_core.specs.Outbox.{failed_response_for, made_in, notice_in, response_for}
-use Rattle.scmi_core.specs.Pending.{has_set_of, is_set_by, promoted as put_first, sets_by, unwanted}
+use Rattle.scmi_core.specs.Pending.{has_set_of, is_set_by, promoted as put_first, sets_by, settled as with_rate, unwanted}
 use Rattle.scmi_core.specs.Situation.{Situation}
 use Rattle.scmi_core.specs.Value.{Change, change_reported, completion, set_to_change}
 use Rattle.scmi_core.proofs.Following.{next}
 use Rattle.scmi_core.proofs.Isolation.{answers-push, refused}
 use Rattle.scmi_core.proofs.Legal.{IsLegal-front, IsLegal-last}
 use Rattle.scmi_core.proofs.Promotions.{promoted-any, promoted-by, promoted-length}
+use Rattle.scmi_core.proofs.Settlings.{mapped-by, settled-any}
 use Rattle.scmi_core.proofs.Situations.{nothing-made}
-use Rattle.scmi_laws.specs.Others.{IsUnanswered, SeesCompletion, SeesFailure, SeesPromotion, SeesReport, SeesRestart, AreSeenAlike, situation_of, value_with}
+use Rattle.scmi_laws.specs.Others.{IsUnanswered, SeesCompletion, SeesFailure, SeesPromotion, SeesReport, SeesRestart, SeesSettling, AreSeenAlike, situation_of, value_with}
 use Rattle.scmi_laws.proofs.Added.{situation-more, unsuccessful}
 use Rattle.scmi_laws.proofs.Reaching.{HasAtMostOne, notices, notified}
 
@@ -268,6 +269,50 @@ promoted board h place b legal =
     record {
       moved = is;
       alike = subst (AreSeenAlike board b s) (sym is) (promoted-alike board place b s);
+    }
+
+-- A SETTLED RATE
+
+module _ (board : Board) (clock rate b : ℕ) (s : Situation) where
+  abbrev rated : List PendingSet
+  rated = map (with_rate clock rate) s.pending
+
+  abbrev settled_to : Situation
+  settled_to = record s { pending = rated }
+
+  settled-alike : AreSeenAlike board b s settled_to
+  settled-alike = record {
+    value = λ x. refl;
+    allowed = λ device scope. refl;
+    busy = λ r. sym (settled-any r clock rate s.pending);
+    room = λ i.
+        let own = sym (mapped-by b (with_rate clock rate) (λ p. refl) s.pending) i in
+        nat_lt (sym (length-map s.pending (with_rate clock rate)) i) PENDING_SETS
+        && (nat_lt own (channel_of board b).share && nat_lt (length s.outbox + own) OUTBOX_ROOM);
+  }
+
+  unsent : (next board b s (ended (Settled clock rate))).outbox ≡ s.outbox
+  unsent = (λ i. s.outbox ++ nothing-made b s (rated ++ []) i) ∙ append-nil s.outbox
+
+  settles : next board b s (ended (Settled clock rate)) ≡ settled_to
+  settles = λ i.
+      record {
+        value = s.value;
+        allowed = s.allowed;
+        subscribed = s.subscribed;
+        pending = append-nil rated i;
+        outbox = unsent i;
+      }
+
+pub settled : (board : Board) (h : List Event) (clock rate b : ℕ) → IsLegal board h
+    → SeesSettling board clock rate b (situation_of board b h)
+    (situation_of board b (h ++ Settled clock rate ∷ []))
+settled board h clock rate b legal =
+    let s = situation_of board b h in
+    let is = situation-more board h (Settled clock rate) legal b ∙ settles board clock rate b s in
+    record {
+      moved = is;
+      alike = subst (AreSeenAlike board b s) (sym is) (settled-alike board clock rate b s);
     }
 
 -- A REPORT OF THE HARDWARE

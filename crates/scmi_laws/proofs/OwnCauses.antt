@@ -7,24 +7,24 @@ use Rattle.scmi_codec.specs.declared.frame.Frame.TheVariants.{Good, Malformed}
 use Rattle.scmi_codec.specs.declared.message.Message.{Message}
 use Rattle.scmi_codec.specs.declared.command.Command as codec
 use Rattle.scmi_plan.specs.Agent.{IsAgent}
-use Rattle.scmi_plan.specs.Board.{Board}
+use Rattle.scmi_plan.specs.Board.{Board, is_free}
 use Rattle.scmi_plan.specs.declared.effect.Effect.{Effect}
 use Rattle.scmi_core.specs.declared.event.Event.{Event}
-use Rattle.scmi_core.specs.declared.event.Event.TheVariants.{Command, Advance, Sent, CommandFailed, AdvanceFailed, Restarted, Promoted, Reported}
+use Rattle.scmi_core.specs.declared.event.Event.TheVariants.{Command, Advance, Sent, CommandFailed, AdvanceFailed, Restarted, Promoted, Settled, Reported}
 use Rattle.scmi_core.specs.declared.pending_set.PendingSet.{PendingSet}
 use Rattle.scmi_core.specs.Deed.{Deed, Success, fold_with_prefix, success_at, success_of}
 use Rattle.scmi_core.specs.History.{deed_after, deeds}
 use Rattle.scmi_core.specs.Laws.{change_asked, may_after}
 use Rattle.scmi_core.specs.Legal.{CanFollow, IsLegal}
 use Rattle.scmi_core.specs.Outbox.{situation_after}
-use Rattle.scmi_core.specs.Pending.{acceptance, pending_sets, promoted, unwanted}
+use Rattle.scmi_core.specs.Pending.{acceptance, pending_sets, promoted, settled, unwanted}
 use Rattle.scmi_core.specs.ReadCommand.{command_on}
 use Rattle.scmi_core.specs.Reply.{fits_channel, reply_words}
 use Rattle.scmi_core.specs.Value.{Change, change_now, change_reported, changes, completion}
-use Rattle.scmi_core.proofs.Causes.{IsOwn, asked-own, later, later-asked, now-asked}
+use Rattle.scmi_core.proofs.Causes.{IsCausedAfter, cause-kept, cause-settled, caused, later, later-asked, now-asked}
 use Rattle.scmi_core.proofs.Following.{change_in, pending_next}
 use Rattle.scmi_core.proofs.Legal.{Grown, IsLegal-front, IsLegal-last, empty, grow, grown}
-use Rattle.scmi_laws.specs.Causes.{CameOf, HasOwnCauses}
+use Rattle.scmi_laws.specs.Causes.{CameOf, CameOfCommand, HasOwnCauses}
 use Rattle.scmi_laws.proofs.Added.{changed-more, pending-more}
 use Rattle.scmi_laws.proofs.Apart.{AllBelow, Apart, all-pairs, apart-front, apart-insert, apart-promoted, apart-push, apart-remove, below-more, each-insert, each-promoted, each-push, each-remove, zip-append, zip-promoted, zip-weaker}
 
@@ -37,7 +37,18 @@ later-not_now board (Some s) p is = later board s.caller s.header p s.command is
 
 -- THE EVENT AT A PLACE
 
+-- a cause after as many events as the place says
+at-place : (board : Board) {h before : List Event} (n : ℕ) (change : Change)
+    → IsCausedAfter board h before change → length before ≡ n → CameOfCommand board h n change
+at-place board n change is place =
+    record { cause = is.cause; place_is = ap length is.before_is ∙ place }
+
 -- one event more leaves a change the command or the report that it came of
+command-kept : (board : Board) (h : List Event) (e : Event) (n : ℕ) (change : Change)
+    → CameOfCommand board h n change → CameOfCommand board (h ++ e ∷ []) n change
+command-kept board h e n change had =
+    at-place board n change (cause-kept board h e change had.cause) had.place_is
+
 came-kept : (board : Board) (h : List Event) (e : Event) (n : ℕ) (change : Change)
     → CameOf board h n change → CameOf board (h ++ e ∷ []) n change
 came-kept board h e n change (inr had) =
@@ -55,24 +66,7 @@ came-kept board h e n change (inr had) =
       };
       place_is = had.place_is;
     })
-came-kept board h e n change (inl had) =
-    let was = had.cause in
-    inl (record {
-      cause = record {
-        before = was.before;
-        message = was.message;
-        after = was.after ++ e ∷ [];
-        place =
-            ap (λ xs. xs ++ e ∷ []) was.place
-            ∙ append_assoc was.before (Command change.causer (Good was.message) ∷ was.after)
-            (e ∷ []);
-        agent = was.agent;
-        asked = was.asked;
-        allowed = was.allowed;
-        kept = was.kept;
-      };
-      place_is = had.place_is;
-    })
+came-kept board h e n change (inl had) = inl (command-kept board h e n change had)
 
 -- a report is that of its change
 said : (board : Board) (h : List Event) (effect : Effect) (change : Change)
@@ -92,53 +86,25 @@ said board h effect change follows is =
     })
 
 -- the last command is that of what it asked for
-module _ (board : Board) (h : List Event) (a : ℕ) (m : Message) (change : Change) where
-  abbrev success_there : ℕ → Option Success
-  success_there x =
-      success_at board (Command x (Good m)) (deed_after board (deeds board h) (Command x (Good m))).reply
-
-  own : (fits : Bool)
-      → option_and_then (change_asked board)
-      (success_of a m.header (command_on board m)
-      (if fits then reply_words board a (situation_after board a (deeds board h)) (command_on board m)
-      else [])) ≡ Some change
-      → IsOwn board a (situation_after board a (deeds board h)) change
-  own true asked =
-      asked-own board a m.header (situation_after board a (deeds board h)) change (command_on board m)
-      asked
-  own false asked = absurd (cc)
-
-  came : IsAgent (length board.agents) a
-      → option_and_then (change_asked board) (success_there a) ≡ Some change
-      → CameOf board (h ++ Command a (Good m) ∷ []) (length h) change
-  came agent asked =
-      let is = own (fits_channel board a m) asked in
-      let back = sym is.causer in
-      inl (record {
-        cause = record {
-          before = h;
-          message = m;
-          after = [];
-          place = ap (λ x. h ++ Command x (Good m) ∷ []) back;
-          agent = subst (IsAgent (length board.agents)) back agent;
-          asked =
-              subst (λ x. option_and_then (change_asked board) (success_there x) ≡ Some change)
-              back asked;
-          allowed = subst (λ x. may_after board h x change.thing ≡ true) back is.allowed;
-          kept = is.kept;
-        };
-        place_is = refl;
-      })
+came : (board : Board) (h : List Event) (a : ℕ) (m : Message) (change : Change)
+    → IsAgent (length board.agents) a
+    → option_and_then (change_asked board)
+    (success_at board (Command a (Good m)) (deed_after board (deeds board h) (Command a (Good m))).reply)
+    ≡ Some change
+    → CameOfCommand board (h ++ Command a (Good m) ∷ []) (length h) change
+came board h a m change agent asked =
+    at-place board (length h) change (caused board h a m change agent asked) refl
 
 -- PLACES FOR ALL CHANGES AND ALL PENDING SETS
 
--- these changes, and those that these sets are to make, came of events at different places
+-- these changes, and those that these sets are to make, came of events at different places, and the
+-- latter of commands
 record HasPlaces (board : Board) (h : List Event)
     (cs : List Change) (ps : List PendingSet) : Type 0 where
   pub places : List ℕ
   pub waiting : List ℕ
   pub changed : AllZip (CameOf board h) places cs
-  pub pending : AllZip (λ n p. CameOf board h n (completion p)) waiting ps
+  pub pending : AllZip (λ n p. CameOfCommand board h n (completion p)) waiting ps
   pub apart : Apart (places ++ waiting)
   pub below : AllBelow (length h) (places ++ waiting)
 
@@ -148,7 +114,7 @@ module _ (board : Board) (h : List Event) (cs : List Change) where
       → HasPlaces board h (cs ++ completion p ∷ []) ps
   completed p ps had = by had.waiting had.pending had.apart had.below
     where
-      by : (waiting : List ℕ) → AllZip (λ n p. CameOf board h n (completion p)) waiting (p ∷ ps)
+      by : (waiting : List ℕ) → AllZip (λ n p. CameOfCommand board h n (completion p)) waiting (p ∷ ps)
           → Apart (had.places ++ waiting) → AllBelow (length h) (had.places ++ waiting)
           → HasPlaces board h (cs ++ completion p ∷ []) ps
       by [] pending apart below = absurd pending
@@ -159,7 +125,7 @@ module _ (board : Board) (h : List Event) (cs : List Change) where
             waiting = ns;
             changed =
                 zip-append (CameOf board h) had.places (n ∷ []) cs (completion p ∷ []) had.changed
-                (pending.0, tt);
+                (inl pending.0, tt);
             pending = pending.1;
             apart = subst Apart same apart;
             below = subst (AllBelow (length h)) same below;
@@ -176,7 +142,7 @@ module _ (board : Board) (h : List Event) (cs : List Change) where
   failed [] had = had
   failed (p ∷ ps) had = by had.waiting had.pending had.apart had.below
     where
-      by : (waiting : List ℕ) → AllZip (λ n p. CameOf board h n (completion p)) waiting (p ∷ ps)
+      by : (waiting : List ℕ) → AllZip (λ n p. CameOfCommand board h n (completion p)) waiting (p ∷ ps)
           → Apart (had.places ++ waiting) → AllBelow (length h) (had.places ++ waiting)
           → HasPlaces board h cs ps
       by [] pending apart below = absurd pending
@@ -202,8 +168,8 @@ module _ (board : Board) (h : List Event) (cs : List Change) where
   }
     where
       by : (ns : List ℕ) (ps : List PendingSet)
-          → AllZip (λ n p. CameOf board h n (completion p)) ns ps
-          → AllZip (λ n p. CameOf board h n (completion p)) ns (map (unwanted a) ps)
+          → AllZip (λ n p. CameOfCommand board h n (completion p)) ns ps
+          → AllZip (λ n p. CameOfCommand board h n (completion p)) ns (map (unwanted a) ps)
       by [] [] all = tt
       by [] (p ∷ ps) all = absurd all
       by (n ∷ ns) [] all = absurd all
@@ -217,7 +183,7 @@ module _ (board : Board) (h : List Event) (cs : List Change) where
     waiting = promoted place had.waiting;
     changed = had.changed;
     pending =
-        zip-promoted (λ n p. CameOf board h n (completion p)) place had.waiting ps had.pending;
+        zip-promoted (λ n p. CameOfCommand board h n (completion p)) place had.waiting ps had.pending;
     apart = apart-promoted place had.places had.waiting had.apart;
     below = each-promoted (λ k. k < length h) place had.places had.waiting had.below;
   }
@@ -235,10 +201,11 @@ module _ (board : Board) (h : List Event) (e : Event) (cs : List Change) (ps : L
   changed-kept =
       zip-weaker (CameOf board h) (CameOf board h') (came-kept board h e) had.places cs had.changed
 
-  pending-kept : AllZip (λ n p. CameOf board h' n (completion p)) had.waiting ps
+  pending-kept : AllZip (λ n p. CameOfCommand board h' n (completion p)) had.waiting ps
   pending-kept =
-      zip-weaker (λ n p. CameOf board h n (completion p)) (λ n p. CameOf board h' n (completion p))
-      (λ n p. came-kept board h e n (completion p)) had.waiting ps had.pending
+      zip-weaker (λ n p. CameOfCommand board h n (completion p))
+      (λ n p. CameOfCommand board h' n (completion p))
+      (λ n p. command-kept board h e n (completion p)) had.waiting ps had.pending
 
   below-kept : AllBelow (length h') (had.places ++ had.waiting)
   below-kept =
@@ -273,7 +240,7 @@ module _ (board : Board) (h : List Event) (e : Event) (cs : List Change) (ps : L
       }
 
   -- it leaves a set pending
-  accepted : (p : PendingSet) → CameOf board h' (length h) (completion p)
+  accepted : (p : PendingSet) → CameOfCommand board h' (length h) (completion p)
       → HasPlaces board h' cs (ps ++ p ∷ [])
   accepted p is =
       let n = length h in
@@ -283,7 +250,7 @@ module _ (board : Board) (h : List Event) (e : Event) (cs : List Change) (ps : L
         waiting = had.waiting ++ n ∷ [];
         changed = changed-kept;
         pending =
-            zip-append (λ n p. CameOf board h' n (completion p)) had.waiting (n ∷ []) ps (p ∷ [])
+            zip-append (λ n p. CameOfCommand board h' n (completion p)) had.waiting (n ∷ []) ps (p ∷ [])
             pending-kept (is, tt);
         apart = subst Apart same (apart-push (had.places ++ had.waiting) n had.apart had.below);
         below =
@@ -295,7 +262,7 @@ module _ (board : Board) (h : List Event) (e : Event) (cs : List Change) (ps : L
   one-more : (change : Option Change) (set : Option PendingSet)
       → ((p : PendingSet) → set ≡ Some p → change ≡ None)
       → ((c : Change) → change ≡ Some c → CameOf board h' (length h) c)
-      → ((p : PendingSet) → set ≡ Some p → CameOf board h' (length h) (completion p))
+      → ((p : PendingSet) → set ≡ Some p → CameOfCommand board h' (length h) (completion p))
       → HasPlaces board h' (cs ++ option_to_list change) (ps ++ option_to_list set)
   one-more None None one now later =
       subst (λ it. HasPlaces board h' it (ps ++ [])) (sym (append-nil cs))
@@ -307,6 +274,34 @@ module _ (board : Board) (h : List Event) (e : Event) (cs : List Change) (ps : L
       subst (λ it. HasPlaces board h' it (ps ++ p ∷ [])) (sym (append-nil cs))
       (accepted p (later p refl))
   one-more (Some c) (Some p) one now later = let no = one p refl in absurd (cc)
+
+-- a set that is settled keeps its event
+got_rate : (board : Board) (h : List Event) (cs : List Change) (clock rate : ℕ)
+    → is_free board clock ≡ true → (ps : List PendingSet) → HasPlaces board h cs ps
+    → HasPlaces board (h ++ Settled clock rate ∷ []) cs (map (settled clock rate) ps)
+got_rate board h cs clock rate free ps had =
+    let e = Settled clock rate in
+    record {
+      places = had.places;
+      waiting = had.waiting;
+      changed = changed-kept board h e cs ps had;
+      pending = by had.waiting ps had.pending;
+      apart = had.apart;
+      below = below-kept board h e cs ps had;
+    }
+  where
+    by : (ns : List ℕ) (ps : List PendingSet)
+        → AllZip (λ n p. CameOfCommand board h n (completion p)) ns ps
+        → AllZip (λ n p. CameOfCommand board (h ++ Settled clock rate ∷ []) n (completion p)) ns
+        (map (settled clock rate) ps)
+    by [] [] all = tt
+    by [] (p ∷ ps) all = absurd all
+    by (n ∷ ns) [] all = absurd all
+    by (n ∷ ns) (p ∷ ps) all = (
+      at-place board n (completion (settled clock rate p))
+          (cause-settled board h clock rate p.agent free p.setting all.0.cause) all.0.place_is,
+      by ns ps all.1,
+    )
 
 -- OF EVERY LEGAL HISTORY
 
@@ -350,7 +345,7 @@ module _ (board : Board) (h : List Event) (legal : IsLegal board h) (had : IsPla
       (one-more board h e cs ps had (option_and_then (change_now board) success)
       (option_and_then (acceptance board) success)
       (λ p is. later-not_now board success p is)
-      (λ c is. came board h a m c follows (now-asked board success c is))
+      (λ c is. inl (came board h a m c follows (now-asked board success c is)))
       (λ p is. came board h a m (completion p) follows (later-asked board success p is)))
   placed (Command a (Malformed len header)) follows =
       onward (Command a (Malformed len header)) (idle (Command a (Malformed len header)))
@@ -374,6 +369,13 @@ module _ (board : Board) (h : List Event) (legal : IsLegal board h) (had : IsPla
       (subst (λ it. HasPlaces board h' it (left ++ [])) (sym (append-nil cs))
       (subst (λ it. HasPlaces board h' cs it) (sym (append-nil left))
       (went_first board h' cs place ps (kept board h (Promoted place) cs ps had))))
+  placed (Settled clock rate) follows =
+      let h' = h ++ Settled clock rate ∷ [] in
+      let left = map (settled clock rate) ps in
+      onward (Settled clock rate)
+      (subst (λ it. HasPlaces board h' it (left ++ [])) (sym (append-nil cs))
+      (subst (λ it. HasPlaces board h' cs it) (sym (append-nil left))
+      (got_rate board h cs clock rate follows.1 ps had)))
   placed (Reported effect) follows =
       let e = Reported effect in
       onward e

@@ -14,18 +14,19 @@ use Rattle.scmi_codec.specs.declared.command.Command as codec
 use Rattle.scmi_codec.specs.declared.frame.Frame.{Frame}
 use Rattle.scmi_codec.specs.declared.frame.Frame.TheVariants.{Good, Malformed}
 use Rattle.scmi_plan.specs.Board.{Board}
+use Rattle.scmi_plan.specs.declared.resource.Resource.TheVariants as resource
 use Rattle.scmi_plan.specs.declared.scope.Scope.{Scope}
 use Rattle.scmi_core.specs.declared.event.Event.{Event}
-use Rattle.scmi_core.specs.declared.event.Event.TheVariants.{Command, Advance, Sent, CommandFailed, AdvanceFailed, Restarted, Promoted, Reported}
+use Rattle.scmi_core.specs.declared.event.Event.TheVariants.{Command, Advance, Sent, CommandFailed, AdvanceFailed, Restarted, Promoted, Settled, Reported}
 use Rattle.scmi_core.specs.declared.pending_set.PendingSet.{PendingSet}
 use Rattle.scmi_core.specs.Agents.{answer_for, frame_from, frames_of}
-use Rattle.scmi_core.specs.Deed.{Deed, Success, fold_with_prefix, promoted_by, restarted_by, success_with}
+use Rattle.scmi_core.specs.Deed.{Deed, Success, fold_with_prefix, restarted_by, success_with}
 use Rattle.scmi_core.specs.Effect.{effect_of}
 use Rattle.scmi_core.specs.History.{deed_after, deeds, delivered_messages, made_for, outbox}
 use Rattle.scmi_core.specs.Laws.{AreAlikeBut}
 use Rattle.scmi_core.specs.Legal.{CanFollow, IsLegal}
 use Rattle.scmi_core.specs.Outbox.{failed_response_for, is_restart_of, is_sent_by, made_in, messages_left, messages_made, sent_count}
-use Rattle.scmi_core.specs.Pending.{acceptance, is_advance, pending_left, pending_sets}
+use Rattle.scmi_core.specs.Pending.{acceptance, has_set_of, is_advance, pending_change, pending_left, pending_sets}
 use Rattle.scmi_core.specs.Permissions.{permission_in}
 use Rattle.scmi_core.specs.ReadCommand.{command_on}
 use Rattle.scmi_core.specs.Reply.{answer_in}
@@ -74,7 +75,7 @@ module _ (board : Board) (b : ℕ) (s : Situation) (deed : Deed) (c : ℕ) (fram
       let no-set = unsaid board (acceptance board) (λ it silent. silent.set) success nothing in
       (λ i.
       if is_advance (event i) then drop 1 s.pending
-      else pending_left (restarted_by (event i)) (promoted_by (event i)) s.pending ++ option_to_list (no-set i))
+      else pending_left (pending_change (event i)) s.pending ++ option_to_list (no-set i))
       ∙ append-nil s.pending
 
   nothing-next : made_next board b s deed ≡ []
@@ -186,6 +187,7 @@ read board h a (AdvanceFailed fault) legal is = absurd (cc)
 read board h a (Sent c) legal is = absurd (cc)
 read board h a (Restarted c) legal is = absurd (cc)
 read board h a (Promoted place) legal is = absurd (cc)
+read board h a (Settled clock rate) legal is = absurd (cc)
 read board h a (Reported effect) legal is = absurd (cc)
 
 -- THE SAME EVENT AFTER TWO HISTORIES
@@ -209,6 +211,7 @@ module _ (board : Board) (h k : List Event)
   one-answer b (Sent c) = refl
   one-answer b (Restarted c) = refl
   one-answer b (Promoted place) = refl
+  one-answer b (Settled clock rate) = refl
   one-answer b (Reported effect) = refl
 
   both-follow : (e : Event) → CanFollow board k e → CanFollow board h e
@@ -227,6 +230,11 @@ module _ (board : Board) (h k : List Event)
       subst (λ s. 0 < length s.pending) (sym (same 0)) follows
   both-follow (Promoted place) follows =
       subst (λ s. place < length s.pending) (sym (same 0)) follows
+  both-follow (Settled clock rate) follows = (
+    follows.0,
+    follows.1,
+    subst (λ s. has_set_of (resource.Clock clock) s.pending ≡ true) (sym (same 0)) follows.2,
+  )
   both-follow (Sent c) follows =
       (follows.0, follows.1, subst (λ s. 0 < length s.outbox) (sym (same c)) follows.2)
 

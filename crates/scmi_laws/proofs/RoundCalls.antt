@@ -17,11 +17,11 @@ use Rattle.scmi_core.specs.declared.event.Event.{Event}
 use Rattle.scmi_core.specs.declared.event.Event.TheVariants.{Command, Advance, Sent, CommandFailed, AdvanceFailed}
 use Rattle.scmi_core.specs.declared.pending_set.PendingSet.{PendingSet}
 use Rattle.scmi_core.specs.Asked.{Asked}
-use Rattle.scmi_core.specs.Deed.{Deed, promoted_by, restarted_by}
+use Rattle.scmi_core.specs.Deed.{Deed}
 use Rattle.scmi_core.specs.Driven.{HappensOn, IsCommandOf, IsEnd}
 use Rattle.scmi_core.specs.History.{deed_after, deeds, outbox}
 use Rattle.scmi_core.specs.Legal.{IsLegal}
-use Rattle.scmi_core.specs.Pending.{acceptance, is_advance, pending_left, pending_sets}
+use Rattle.scmi_core.specs.Pending.{acceptance, is_advance, pending_change, pending_left, pending_sets}
 use Rattle.scmi_core.proofs.Deeds.{added_success}
 use Rattle.scmi_core.proofs.Laws.{as_many}
 use Rattle.scmi_core.proofs.Legal.{IsLegal-front, deed-event}
@@ -439,7 +439,7 @@ module _ (board : Board) (h : List Event) (e x : Event)
   left_by it =
       let ps = pending_sets board (deeds board h) in
       if is_advance it then drop 1 ps
-      else pending_left (restarted_by it) (promoted_by it) ps
+      else pending_left (pending_change it) ps
       ++ option_to_list (option_and_then (acceptance board) (added_success board deed))
 
   pending-by : pending_sets board (deeds board (h ++ e ∷ [])) ≡ left_by x

@@ -13,7 +13,7 @@ use Rattle.scmi_core.specs.Agents.{answers_to}
 use Rattle.scmi_core.specs.History.{deeds}
 use Rattle.scmi_core.specs.Laws.{may_after}
 use Rattle.scmi_core.specs.Outbox.{failed_response_for, made_in, response_for, situation_after, state_changed}
-use Rattle.scmi_core.specs.Pending.{has_set_of, promoted, unwanted}
+use Rattle.scmi_core.specs.Pending.{has_set_of, promoted, settled, unwanted}
 use Rattle.scmi_core.specs.Situation.{Situation, has_room}
 use Rattle.scmi_core.specs.Value.{Change, State, Thing, change_reported, completion, value_in}
 
@@ -121,6 +121,13 @@ pub record SeesRestart (board : Board) (a b : ℕ) (s t : Situation) : Type 0 wh
 pub record SeesPromotion (board : Board) (place b : ℕ) (s t : Situation) : Type 0 where
   -- no more than another order of the pending sets
   pub moved : t ≡ record s { pending = promoted place s.pending }
+  -- on which no answer depends
+  pub alike : AreSeenAlike board b s t
+
+-- the pending set of a clock gets another rate, as agent b in situation s sees it, which is then t
+pub record SeesSettling (board : Board) (clock rate b : ℕ) (s t : Situation) : Type 0 where
+  -- no more than what that set gives the clock
+  pub moved : t ≡ record s { pending = map (settled clock rate) s.pending }
   -- on which no answer depends
   pub alike : AreSeenAlike board b s t
 

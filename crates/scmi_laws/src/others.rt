@@ -6,8 +6,8 @@ ghost use Rattle.scmi_core.specs.Legal.{IsLegal};
 ghost use Rattle.scmi_plan.specs.declared.effect.Effect.{Effect};
 ghost use Rattle.scmi_core.specs.declared.event.Event.{Event};
 ghost use Rattle.scmi_codec.specs.declared.fault.Fault.{Fault};
-ghost use Rattle.scmi_core.specs.declared.event.Event.TheVariants.{Advance, AdvanceFailed, Command, CommandFailed, Promoted, Reported, Restarted, Sent};
-ghost use Rattle.scmi_laws.specs.Others.{IsUnanswered, Reaches, SeesCompletion, SeesFailure, SeesPromotion, SeesReport, SeesRestart, SeesTheSame, situation_of};
+ghost use Rattle.scmi_core.specs.declared.event.Event.TheVariants.{Advance, AdvanceFailed, Command, CommandFailed, Promoted, Reported, Restarted, Sent, Settled};
+ghost use Rattle.scmi_laws.specs.Others.{IsUnanswered, Reaches, SeesCompletion, SeesFailure, SeesPromotion, SeesReport, SeesRestart, SeesSettling, SeesTheSame, situation_of};
 ghost use Rattle.scmi_plan.specs.Board.{Board};
 
 /// All that one agent's command is to another agent, in every legal history of every board, whoever
@@ -36,9 +36,10 @@ pub fn every_other_agent()
 /// another agent, and a command that failed, whoever asked it and whatever the fault, leave an
 /// agent's situation as it was. A restart of another agent ends no set: it only drops that agent's
 /// wish for delayed responses, on which no answer depends. A promotion only changes the order of the
-/// pending sets, on which no answer depends either. A report of the hardware gives one value, leaves
-/// permissions, requests and pending sets, answers nobody, and makes no more than one notification,
-/// with the platform, 0, as causer.
+/// pending sets, on which no answer depends either, and a settled rate only changes what the pending
+/// set of its clock gives that clock. A report of the hardware gives one value, leaves permissions,
+/// requests and pending sets, answers nobody, and makes no more than one notification, with the
+/// platform, 0, as causer.
 pub fn every_event()
     ensures advance { (board : Board) (h : List Event) (b : ℕ)
         → IsLegal board (h ++ Advance ∷ [])
@@ -58,6 +59,9 @@ pub fn every_event()
     ensures promoted { (board : Board) (h : List Event) (place b : ℕ) → IsLegal board h
         → SeesPromotion board place b (situation_of board b h)
         (situation_of board b (h ++ Promoted place ∷ [])) }
+    ensures settled { (board : Board) (h : List Event) (clock rate b : ℕ) → IsLegal board h
+        → SeesSettling board clock rate b (situation_of board b h)
+        (situation_of board b (h ++ Settled clock rate ∷ [])) }
     ensures reported { (board : Board) (h : List Event) (effect : Effect) (b : ℕ)
         → IsLegal board h → SeesReport b effect (situation_of board b h)
         (situation_of board b (h ++ Reported effect ∷ [])) }

@@ -1,4 +1,4 @@
-use Rattle.scmi_laws.proofs.Events.{advance, advance_failed, command_failed, promoted, reported, restarted, sent, unanswered}
+use Rattle.scmi_laws.proofs.Events.{advance, advance_failed, command_failed, promoted, reported, restarted, sent, settled, unanswered}
 use Rattle.scmi_laws.proofs.others.every_event.Goals as goal
 
 pub returns : goal.returns
@@ -9,6 +9,7 @@ returns c = record {
   command_failed = command_failed;
   restarted = restarted;
   promoted = promoted;
+  settled = settled;
   reported = reported;
   unanswered = unanswered;
 }
