@@ -12,21 +12,23 @@ use Rattle.scmi_link.specs.Calls.{Collects}
 use Rattle.scmi_link.specs.declared.collected.Collected.{Collected}
 use Rattle.scmi_link.specs.declared.collected.Collected.TheVariants as collected
 use Rattle.scmi_core.specs.declared.event.Event.{Event}
-use Rattle.scmi_core.specs.declared.event.Event.TheVariants.{Command, Advance, Sent, CommandFailed, AdvanceFailed, Restarted, Reported}
+use Rattle.scmi_core.specs.declared.event.Event.TheVariants.{Command, Advance, Sent, CommandFailed, AdvanceFailed, Restarted, Promoted, Reported, Settled}
 use Rattle.scmi_codec.specs.declared.fault.Fault.{Fault}
 use Rattle.scmi_core.specs.declared.core_error.CoreError.{CoreError}
 use Rattle.scmi_core.specs.Platform.{Platform}
 use Rattle.scmi_plan.specs.Board.{Board}
 use Rattle.scmi_plan.specs.declared.effect.Effect.{Effect}
+use Rattle.scmi_plan.specs.declared.report.Report.{Report}
+use Rattle.scmi_plan.specs.declared.report.Report.TheVariants as report
 use Rattle.scmi_core.specs.Agents.{answers_to, frames_of}
 use Rattle.scmi_core.specs.History.{answer_of_event, answer_to, delivered_messages}
 use Rattle.scmi_core.specs.Outbox.{is_sent_by}
 use Rattle.scmi_core.specs.Reply.{failed_answer}
-use Rattle.scmi_core.specs.Legal.{IsLegal}
+use Rattle.scmi_core.specs.Legal.{IsLegal, told}
 use Rattle.scmi_core.specs.Asked.{Asked}
 use Rattle.scmi_core.specs.Driven.{HappensOn, HasMade, IsCommandOf, IsEnd, asks}
 use Rattle.scmi_core.proofs.EffectsMade.{made-on}
-use Rattle.scmi_core.proofs.Laws.{frames_failed_own, frames_failed_other, answers_failed_own, answers_failed_other, advance_failed, frames_own, frames_other, answers_own, answers_other, IsQuiet, advance, reported, restarted, sent_to, frames_quiet, answers_quiet, delivered_kept, delivered_sent, delivered_other, as_many}
+use Rattle.scmi_core.proofs.Laws.{frames_failed_own, frames_failed_other, answers_failed_own, answers_failed_other, advance_failed, frames_own, frames_other, answers_own, answers_other, IsQuiet, advance, promoted, reported, restarted, settled, sent_to, frames_quiet, answers_quiet, delivered_kept, delivered_sent, delivered_other, as_many}
 use Rattle.scmi_link.specs.declared.served.Served.{Served}
 use Rattle.scmi_link.specs.declared.served.Served.TheVariants as served
 use Rattle.scmi_link.specs.declared.flushed.Flushed.{Flushed}
@@ -251,6 +253,26 @@ agrees_after_restart old new a vs cs ps r kept eb legal event err = agrees_after
 pub agrees_after_report : (old new : Platform) (effect : Effect) (vs : List CalleeView) (cs : List CallerView) (ps : List (Option ℕ)) (r : Result (Unit {0}) CoreError) → EndsAgree old.board old.history vs cs ps → new.board ≡ old.board → IsLegal new.board new.history
     → OnOk r (new.history ≡ old.history ++ Reported effect ∷ []) → OnErr r (new ≡ old) → EndsAgree new.board new.history vs cs ps
 agrees_after_report old new effect vs cs ps r kept eb legal event err = agrees_after_quiet old new (Reported effect) vs cs ps r (reported effect) (λ b. refl) kept eb legal event err
+
+-- what hardware reports is no command, and posts nothing
+told_quiet : (r : Report) → IsQuiet (told r)
+told_quiet (report.Changed effect) = reported effect
+told_quiet (report.First place) = promoted place
+told_quiet (report.Settled clock rate) = settled clock rate
+
+told_unsent : (r : Report) (b : ℕ) → is_sent_by b (told r) ≡ false
+told_unsent (report.Changed effect) b = refl
+told_unsent (report.First place) b = refl
+told_unsent (report.Settled clock rate) b = refl
+
+-- what `Core::tell` leaves, whatever it answers
+pub agrees_after_tell : (old new : Platform) (reported : Report) (vs : List CalleeView) (cs : List CallerView) (ps : List (Option ℕ)) (r : Result Bool CoreError) → EndsAgree old.board old.history vs cs ps → new.board ≡ old.board → IsLegal new.board new.history
+    → IfOk r (λ did. did ≡ true → new.history ≡ old.history ++ told reported ∷ []) → IfOk r (λ did. did ≡ false → new ≡ old) → OnErr r (new ≡ old) → EndsAgree new.board new.history vs cs ps
+agrees_after_tell old new reported vs cs ps (Ok true) kept eb legal event same err =
+    let legal : IsLegal old.board (old.history ++ told reported ∷ []) = subst (λ k. IsLegal old.board k) (event refl) (rw eb at legal) in
+    rw eb (subst (λ k. EndsAgree old.board k vs cs ps) (sym (event refl)) (agrees_quiet old.board old.history (told reported) vs cs ps (told_quiet reported) (told_unsent reported) kept legal))
+agrees_after_tell old new reported vs cs ps (Ok false) kept eb legal event same err = subst (λ p. EndsAgree p.board p.history vs cs ps) (sym (same refl)) kept
+agrees_after_tell old new reported vs cs ps (Err e) kept eb legal event same err = subst (λ p. EndsAgree p.board p.history vs cs ps) (sym err) kept
 
 -- what `Core::advance_on` leaves, whatever it answers
 pub agrees_after_on : (old new : Platform) (asked asked' : List Asked → Type 0) (vs : List CalleeView) (cs : List CallerView) (ps : List (Option ℕ)) (r : Result Bool CoreError) → EndsAgree old.board old.history vs cs ps → new.board ≡ old.board → IsLegal new.board new.history

@@ -1,9 +1,10 @@
 -- What serving an agent and flushing its outbox add to a history of plain events.
-use Rattle.std.proofs.Common.{◌≡◌, ℕ, Bool, List, [], ◌∷◌, ◌++◌, None, Result, Ok, Err, OnOk, OnErr, refl, sym, ap, subst, ◌∙◌}
+use Rattle.std.proofs.Common.{◌≡◌, ℕ, Bool, true, false, List, [], ◌∷◌, ◌++◌, None, Result, Ok, Err, OnOk, OnErr, IfOk, refl, sym, ap, subst, ◌∙◌}
 use Rattle.std.specs.List.{All}
 use Rattle.std.proofs.lemmas.List.Elements.{All-push}
 use Rattle.scmi_core.proofs.EffectsMade.{asks-stay}
 use Rattle.scmi_core.specs.Driven.{ask_after, asks}
+use Rattle.scmi_core.specs.Legal.{told}
 use Rattle.scmi_core.specs.Platform.{Platform}
 use Rattle.scmi_core.specs.declared.core_error.CoreError.{CoreError}
 use Rattle.scmi_core.specs.Plain.{IsPlain}
@@ -19,6 +20,8 @@ use Rattle.scmi_ends.specs.Serve.{Serves, ServesOne}
 use Rattle.scmi_link.specs.View.{CallerView, CalleeView}
 use Rattle.scmi_plan.specs.Board.{Board}
 use Rattle.scmi_plan.specs.declared.effect.Effect.{Effect}
+use Rattle.scmi_plan.specs.declared.report.Report.{Report}
+use Rattle.scmi_plan.specs.declared.report.Report.TheVariants as report
 
 pub one_more_event : (P : Event → Type 0) (h h' : List Event) (e : Event) → h' ≡ h ++ e ∷ [] → P e → All P h → All P h'
 one_more_event P h h' e is p all = subst (All P) (sym is) (All-push P h e all p)
@@ -67,3 +70,15 @@ restarted_asks old new a r eb event err = asked_after old new (Restarted a) r re
 pub reported_asks : (old new : Platform) (effect : Effect) (r : Result (Unit {0}) CoreError) → new.board ≡ old.board → OnOk r (new.history ≡ old.history ++ Reported effect ∷ []) → OnErr r (new ≡ old)
     → asks new.board new.history ≡ asks old.board old.history
 reported_asks old new effect r eb event err = asked_after old new (Reported effect) r refl eb event err
+
+-- nor for anything else that it reports
+told_unasked : (board : Board) (h : List Event) (r : Report) → ask_after board h (told r) ≡ None
+told_unasked board h (report.Changed effect) = refl
+told_unasked board h (report.First place) = refl
+told_unasked board h (report.Settled clock rate) = refl
+
+pub told_asks : (old new : Platform) (reported : Report) (r : Result Bool CoreError) → new.board ≡ old.board → IfOk r (λ did. did ≡ true → new.history ≡ old.history ++ told reported ∷ []) → IfOk r (λ did. did ≡ false → new ≡ old) → OnErr r (new ≡ old)
+    → asks new.board new.history ≡ asks old.board old.history
+told_asks old new reported (Ok true) eb event same err = asked_after old new (told reported) (Ok tt) (told_unasked old.board old.history reported) eb (event refl) tt
+told_asks old new reported (Ok false) eb event same err = ap (λ p. asks p.board p.history) (same refl)
+told_asks old new reported (Err error) eb event same err = ap (λ p. asks p.board p.history) err

@@ -14,7 +14,8 @@ ghost use Rattle.scmi_ends.specs.Serve.{Serves};
 ///
 /// `serve`, and `serve_on` if the hardware never refuses (`obeyed`), add a command or nothing, and
 /// `flush` a posting or nothing. `advance`, and `advance_on` if the hardware never refuses, add an
-/// advance or nothing. `restart` alone adds a restart, and `report` alone a report.
+/// advance or nothing. `restart` alone adds a restart, and `report` and `tell` alone what the
+/// hardware reports.
 pub fn every_plain_call()
     ensures serves { (a : ℕ) (old : ControllerView) (served : Served) (new : ControllerView)
         → Serves a old served new → All IsPlain old.history → All IsPlain new.history }

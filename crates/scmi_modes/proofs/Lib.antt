@@ -3,7 +3,6 @@ mod DroppedSince
 pub mod SessionLines
 pub mod Plain
 pub mod Refused
-pub mod Reports
 pub mod Runs
 pub mod Inputs
 pub mod OneLine

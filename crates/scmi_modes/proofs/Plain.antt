@@ -54,7 +54,7 @@ module _ (full : Bool) (Shows : CallerView → Result Closing CloseError → Typ
   one_step Advance (line.Advanced more) old new without made all = advanced more old.platform new.platform made.makes all
   one_step (Fail a fault call) l old new without made all = absurd without
   one_step (AdvanceFailed fault) l old new without made all = absurd without
-  one_step (Report effect) l old new without made all = absurd without
+  one_step (Report report) l old new without made all = absurd without
   one_step (Restart a) l old new without made all = absurd without
   one_step s l old new without made all = absurd made
 

@@ -1,5 +1,5 @@
 -- What each step of a session leaves, and what its line says about it.
-use Rattle.std.specs.Prelude.{◌≡◌, ◌≢◌, ℕ, ◌+◌, ◌-◌, ◌%◌, ◌<◌, Bool, true, false, [], ◌∷◌, ◌++◌, ◌⊎◌, length, slice_get, slice_set, Option, Some, None, Result, Ok, Err}
+use Rattle.std.specs.Prelude.{◌≡◌, ◌≢◌, ℕ, ◌+◌, ◌-◌, ◌%◌, ◌<◌, Bool, true, false, [], ◌∷◌, ◌++◌, length, slice_get, slice_set, Option, Some, None, Result, Ok, Err}
 use Rattle.scmi_codec.specs.Area.{is_well_formed}
 use Rattle.scmi_codec.specs.Command.{protocol_header}
 use Rattle.scmi_codec.specs.declared.frame.Frame.{Frame}
@@ -15,10 +15,10 @@ use Rattle.scmi_link.specs.declared.post_error.PostError.{PostError}
 use Rattle.scmi_link.specs.declared.post_error.PostError.TheVariants as refused
 use Rattle.scmi_codec.specs.declared.fault.Fault.{Fault}
 use Rattle.scmi_core.specs.Effect.{effect_after}
-use Rattle.scmi_plan.specs.declared.effect.Effect.{Effect}
+use Rattle.scmi_plan.specs.declared.report.Report.{Report as HardwareReport}
 use Rattle.scmi_core.specs.History.{deeds}
 use Rattle.scmi_core.specs.Pending.{pending_sets}
-use Rattle.scmi_core.specs.Value.{HasNoResource, HasNoState, IsReportable}
+use Rattle.scmi_core.specs.Legal.{CanFollow, told}
 use Rattle.scmi_core.specs.declared.event.Event.TheVariants as event
 use Rattle.scmi_link.specs.declared.served.Served.{Served}
 use Rattle.scmi_ends.specs.AgentView.{AgentView}
@@ -99,10 +99,10 @@ abbrev pub AdvancesRefused : Fault → ControllerView → Bool → ControllerVie
 AdvancesRefused fault old true new = (0 < length (pending_sets old.board (deeds old.board old.history))) × (new ≡ record old { history = old.history ++ event.AdvanceFailed fault ∷ []; room = new.room })
 AdvancesRefused fault old false new = (pending_sets old.board (deeds old.board old.history) ≡ []) × (new ≡ old)
 
--- a change that the hardware made by itself is taken over, and nothing else is done; or it is not, and nothing changes, if the board lacks the domain or clock or has no such state
-abbrev pub Reports : Effect → ControllerView → Bool → ControllerView → Type 0
-Reports effect old true new = IsReportable old.board effect × (new ≡ record old { history = old.history ++ event.Reported effect ∷ []; room = new.room })
-Reports effect old false new = (HasNoResource old.board effect ⊎ HasNoState old.board effect) × (new ≡ old)
+-- what the hardware reports is taken over, if it may come after the history, and nothing else is done; or it may not, and nothing changes
+abbrev pub Reports : HardwareReport → ControllerView → Bool → ControllerView → Type 0
+Reports report old true new = CanFollow old.board old.history (told report) × (new ≡ record old { history = old.history ++ told report ∷ []; room = new.room })
+Reports report old false new = (¬ (CanFollow old.board old.history (told report))) × (new ≡ old)
 
 -- what agent a asked for has ended, since it restarted without the platform; its channels stay as they were
 abbrev pub Restarts : ℕ → ControllerView → ControllerView → Type 0
@@ -172,7 +172,7 @@ module _ (full : Bool) (Shows : CallerView → Result Closing CloseError → Typ
   Steps (Fail a fault call) (line.NotPosted b refusal) old new = (b ≡ a) × AtAgent a (λ before after. IsRefusedAt full before refusal after) old new
   Steps (Fail a fault call) (line.Collected b answer) old new = (b ≡ a) × Exchanges (ServesRefused fault a) a call answer old new
   Steps (AdvanceFailed fault) (line.AdvanceFailed more) old new = AtPlatform (λ before after. AdvancesRefused fault before more after) old new
-  Steps (Report effect) (line.Reported taken) old new = AtPlatform (λ before after. Reports effect before taken after) old new
+  Steps (Report report) (line.Reported taken) old new = AtPlatform (λ before after. Reports report before taken after) old new
   Steps (Restart a) (line.Restarted b) old new = (b ≡ a) × AtPlatform (λ before after. Restarts a before after) old new
   Steps _ _ old new = ⊥
 
@@ -189,6 +189,6 @@ StopsFor (Platform a platform.Serve) old new = new ≡ old
 StopsFor (Platform a platform.Flush) old new = new ≡ old
 StopsFor Advance old new = new ≡ old
 StopsFor (AdvanceFailed fault) old new = new ≡ old
-StopsFor (Report effect) old new = new ≡ old
+StopsFor (Report report) old new = new ≡ old
 StopsFor (Restart a) old new = new ≡ old
 StopsFor _ old new = ⊥

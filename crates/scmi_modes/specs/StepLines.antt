@@ -39,7 +39,7 @@ IsLineOf Advance (line.Advanced more) = Unit {0}
 IsLineOf (Fail a fault call) (line.NotPosted b refusal) = b ≡ a
 IsLineOf (Fail a fault call) (line.Collected b collected) = b ≡ a
 IsLineOf (AdvanceFailed fault) (line.AdvanceFailed more) = Unit {0}
-IsLineOf (Report effect) (line.Reported taken) = Unit {0}
+IsLineOf (Report report) (line.Reported taken) = Unit {0}
 IsLineOf (Restart a) (line.Restarted b) = b ≡ a
 IsLineOf _ _ = ⊥
 

@@ -11,7 +11,7 @@
 //! between them. By the contract of `Session::step` each step is made once, on the channels of its
 //! agent, and leaves there what that call leaves; the endpoints of all other agents stay as they
 //! were, and its line reports what the call answered. A step beside hardware that refuses is made so
-//! that no change is taken, and a change that the hardware reports is taken over.
+//! that no change is taken, and what the hardware reports is taken over.
 //!
 //! A function whose name ends in `_counted`, and `run_input`, promise how often their reader is
 //! read: it is one that counts. All that a run of agents is made of, such as `Script` and `Gate`, is
@@ -32,7 +32,6 @@ mod program;
 mod reference_board;
 mod refused_steps;
 mod refusing;
-mod report_step;
 mod run_error;
 mod script_kind;
 mod session;

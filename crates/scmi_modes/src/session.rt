@@ -1,12 +1,12 @@
 //! Both sides of a board on one thread.
 ghost use Rattle.std.specs.Prelude.{◌≡◌};
 
-use crate::{agent_steps, refused_steps, report_step};
+use crate::{agent_steps, refused_steps};
 use scmi_codec::Fault;
-use scmi_core::{Core, Effect, Trace};
+use scmi_core::{Core, Trace};
 use scmi_ends::{AgentEnd, Controller, Link, Served, connect};
 use scmi_link::Channel;
-use scmi_plan::Plan;
+use scmi_plan::{Plan, Report};
 use scmi_text::{AgentStep, Call, PlatformStep, Step, StepLine};
 use std::alloc::{AllocError, Global};
 use std::marker::Model;
@@ -89,7 +89,7 @@ impl<C: Channel> Session<C> {
             Step::Advance => self.advance(),
             Step::Fail { agent, fault, call } => self.exchange_refused(*agent, *fault, call),
             Step::AdvanceFailed { fault } => self.advance_refused(*fault),
-            Step::Report { effect } => self.report(*effect),
+            Step::Report { report } => self.report(*report),
             Step::Restart { agent } => self.restart(*agent),
         }
     }
@@ -229,14 +229,16 @@ impl<C: Channel> Session<C> {
         Ok(StepLine::AdvanceFailed { more })
     }
 
-    fn report(&mut self, effect: Effect) -> Result<StepLine, AllocError>
+    fn report(&mut self, report: Report) -> Result<StepLine, AllocError>
         ensures agents { length self.new.agents ≡ length self.old.agents }
         ensures step { IfOk result (λ line.
-            Steps C.FULL (ShowsClose C.caller_view C.close_shows) (Step.Report effect) line self.old self.new) }
+            Steps C.FULL (ShowsClose C.caller_view C.close_shows) (Step.Report report) line self.old self.new) }
         ensures err { OnErr result (self.new ≡ self.old) }
     {
-        let taken = report_step::report(effect, &mut self.controller)?;
-        Ok(StepLine::Reported { taken })
+        match self.controller.tell(report) {
+            Ok(taken) => Ok(StepLine::Reported { taken }),
+            Err(_) => Err(AllocError),
+        }
     }
 
     fn restart(&mut self, agent: u32) -> Result<StepLine, AllocError>

@@ -5,7 +5,7 @@
 //!
 //! | name | has besides |
 //! |---|---|
-//! | `Event` | `CommandFailed` and `AdvanceFailed`, each with a `Fault`, `Restarted`, and `Reported` |
+//! | `Event` | `CommandFailed` and `AdvanceFailed`, each with a `Fault`, `Restarted`, `Promoted`, `Settled` and `Reported` |
 //! | `CoreError` | `NoResource` and `NoState`, of a report |
 //! | `AgentLog` | `reply_looks`, `message_looks` |
 //! | `Channel` | ghost members, by which contracts speak of a channel |
@@ -32,5 +32,7 @@ mod messages;
 mod pair;
 #[cfg(test)]
 mod race;
+#[cfg(test)]
+mod reports;
 #[cfg(test)]
 mod surface;

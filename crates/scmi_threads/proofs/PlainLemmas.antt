@@ -1,4 +1,4 @@
--- What each call of a round adds to the history: no restart, no promotion and no report, and beside hardware that never refuses a plain event.
+-- What each call of a round adds to the history: no restart, no promotion, no settling and no report, and beside hardware that never refuses a plain event.
 use Rattle.std.proofs.Common.{◌≡◌, inl, inr, ℕ, Bool, true, false, List, [], ◌∷◌, ◌++◌, refl, sym, subst}
 use Rattle.std.specs.Prelude.{IsTrue}
 use Rattle.std.specs.List.{All}
@@ -8,7 +8,7 @@ use Rattle.scmi_core.specs.Asked.{Asked}
 use Rattle.scmi_core.specs.Driven.{HappensOn, IsCommandOf, IsEnd}
 use Rattle.scmi_core.specs.Plain.{IsNoReport, IsNoRestart, IsPlain}
 use Rattle.scmi_core.specs.declared.event.Event.{Event}
-use Rattle.scmi_core.specs.declared.event.Event.TheVariants.{Command, Advance, Sent, CommandFailed, AdvanceFailed, Restarted, Promoted, Reported}
+use Rattle.scmi_core.specs.declared.event.Event.TheVariants.{Command, Advance, Sent, CommandFailed, AdvanceFailed, Restarted, Promoted, Reported, Settled}
 use Rattle.scmi_link.specs.declared.served.Served.{Served}
 use Rattle.scmi_link.specs.declared.served.Served.TheVariants as served
 use Rattle.scmi_ends.specs.ControllerView.{ControllerView, callee_of}
@@ -26,6 +26,7 @@ unrestarted (CommandFailed a frame fault) is = tt
 unrestarted (AdvanceFailed fault) is = tt
 unrestarted (Restarted a) is = is
 unrestarted (Promoted place) is = tt
+unrestarted (Settled clock rate) is = tt
 unrestarted (Reported effect) is = tt
 
 pub unreported : (e : Event) → IsOfRounds e → IsNoReport e
@@ -36,6 +37,7 @@ unreported (CommandFailed a frame fault) is = tt
 unreported (AdvanceFailed fault) is = tt
 unreported (Restarted a) is = tt
 unreported (Promoted place) is = tt
+unreported (Settled clock rate) is = tt
 unreported (Reported effect) is = is
 
 command_of_rounds : (a : ℕ) (f : Frame) (e : Event) → IsCommandOf a f e → IsOfRounds e

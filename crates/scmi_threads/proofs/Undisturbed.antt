@@ -16,7 +16,7 @@ use Rattle.scmi_plan.specs.Plan.{IsValid}
 use Rattle.scmi_plan.specs.declared.agent_channel.TheConstants.{LEAST_CHANNEL_WORDS}
 use Rattle.scmi_core.specs.declared.event.Event.{Event}
 use Rattle.scmi_codec.specs.declared.fault.Fault.{Fault}
-use Rattle.scmi_core.specs.declared.event.Event.TheVariants.{Command, Advance, Sent, CommandFailed, AdvanceFailed, Restarted, Promoted, Reported}
+use Rattle.scmi_core.specs.declared.event.Event.TheVariants.{Command, Advance, Sent, CommandFailed, AdvanceFailed, Restarted, Promoted, Reported, Settled}
 use Rattle.scmi_core.specs.Deed.{fold_with_prefix}
 use Rattle.scmi_core.specs.History.{answer_to, scmi}
 use Rattle.scmi_core.specs.Agents.{frame_from, frames_of, answer_for, answers_to}
@@ -104,6 +104,7 @@ module _ (board : Board) (a : ℕ) (valid : IsValid board) where
   each before (Sent b) rest h = (tt, h)
   each before (Restarted b) rest h = (tt, h)
   each before (Promoted place) rest h = (tt, h)
+  each before (Settled clock rate) rest h = (tt, h)
   each before (Reported effect) rest h = (tt, h)
 
   from : (before : List Event) (frames : List Frame) (so_far : List Answer) (h : List Event) → AllZip IsAnswerTo frames so_far → All IsGood (filter_map (frame_from a) h) → AllZip IsAnswerTo (frames ++ filter_map (frame_from a) h) (fold_with_prefix (λ b xs e. xs ++ answer_for board a b e) before so_far h)

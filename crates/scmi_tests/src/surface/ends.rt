@@ -3,9 +3,10 @@ ghost use Rattle.std.specs.Prelude.{◌≡◌, [], true};
 ghost use Rattle.scmi_ends.specs.AgentView.{IsOfLink};
 
 use scmi_codec::{Frame, Message, Payload};
-use scmi_core::{Core, Trace};
+use scmi_core::{Core, CoreError, Trace};
 use scmi_ends::{AgentEnd, Controller, Flushed, Link, ServeError, Served, ShutError, connect};
 use scmi_link::{Channel, CloseError, Closing, Collected, PostError};
+use scmi_plan::Report;
 use std::alloc::Global;
 use std::sync::Wait;
 
@@ -39,6 +40,7 @@ fn call_the_platform<C: Channel>(alloc: Global, core: Core) -> Option<Trace>
         return None;
     };
     let _served: Result<Served, ServeError> = platform.serve(&links, 1);
+    let _taken: Result<bool, CoreError> = platform.tell(Report::First(0));
     let _advanced: Result<bool, ServeError> = platform.advance();
     let _flushed: Result<Flushed, ServeError> = platform.flush(&links, 1);
     let _closed: Result<(), ShutError> = platform.close(&links, 1);

@@ -3,7 +3,8 @@ ghost use Rattle.std.specs.Prelude.{◌≡◌, true};
 
 use scmi_codec::Name;
 use scmi_plan::{
-    Clock, Device, Domain, Load, Plan, PlanError, Rates, RawClock, RawDomain, RawPlan, Resource,
+    Clock, Device, Domain, Effect, Load, Plan, PlanError, Rates, RawClock, RawDomain, RawPlan,
+    Report, Resource,
 };
 use std::alloc::Global;
 
@@ -128,6 +129,15 @@ fn number_of(resource: Resource) -> u32 {
     match resource {
         Resource::Domain(domain) => domain,
         Resource::Clock(clock) => clock,
+    }
+}
+
+/// What hardware reports is one of these, by its fields.
+fn fields_of_report(report: Report) -> (Option<Effect>, u32, u64) {
+    match report {
+        Report::Changed(effect) => (Some(effect), 0, 0),
+        Report::First(place) => (None, place, 0),
+        Report::Settled { clock, rate } => (None, clock, rate),
     }
 }
 

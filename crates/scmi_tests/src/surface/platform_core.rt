@@ -3,7 +3,7 @@ ghost use Rattle.std.specs.Prelude.{◌≡◌, true};
 
 use scmi_codec::{Answer, Frame, Message, Status};
 use scmi_core::{Core, CoreError, Event, Fault, Trace};
-use scmi_plan::Plan;
+use scmi_plan::{Effect, Plan, Report};
 use std::alloc::Global;
 
 fn name_the_calls() {
@@ -11,6 +11,10 @@ fn name_the_calls() {
     let _: fn(&mut Core) -> Result<(), CoreError> = Core::reserve;
     let _: fn(&mut Core, u32, &Frame) -> Result<Answer, CoreError> = Core::command;
     let _: fn(&mut Core) -> Result<bool, CoreError> = Core::advance;
+    let _: fn(&mut Core, Effect) -> Result<(), CoreError> = Core::report;
+    let _: fn(&mut Core, usize) -> Result<bool, CoreError> = Core::promote;
+    let _: fn(&mut Core, u32, u64) -> Result<bool, CoreError> = Core::settle;
+    let _: fn(&mut Core, Report) -> Result<bool, CoreError> = Core::tell;
     let _: fn(&Core, u32) -> Result<Option<Message>, CoreError> = Core::front;
     let _: fn(&mut Core, u32) -> Result<(), CoreError> = Core::sent;
     let _: fn(Core) -> Trace = Core::into_trace;
@@ -33,7 +37,8 @@ fn agent_of(event: &Event) -> u32 {
         Event::CommandFailed(agent, _frame, _fault) => *agent,
         Event::AdvanceFailed(_fault) => 0,
         Event::Restarted(agent) => *agent,
-        Event::Promoted(place) => *place,
+        Event::Promoted(_place) => 0,
+        Event::Settled(_clock, _rate) => 0,
         Event::Reported(_effect) => 0,
     }
 }
