@@ -266,13 +266,13 @@ told_unsent (report.First place) b = refl
 told_unsent (report.Settled clock rate) b = refl
 
 -- what `Core::tell` leaves, whatever it answers
-pub agrees_after_tell : (old new : Platform) (reported : Report) (vs : List CalleeView) (cs : List CallerView) (ps : List (Option ℕ)) (r : Result Bool CoreError) → EndsAgree old.board old.history vs cs ps → new.board ≡ old.board → IsLegal new.board new.history
-    → IfOk r (λ did. did ≡ true → new.history ≡ old.history ++ told reported ∷ []) → IfOk r (λ did. did ≡ false → new ≡ old) → OnErr r (new ≡ old) → EndsAgree new.board new.history vs cs ps
-agrees_after_tell old new reported vs cs ps (Ok true) kept eb legal event same err =
-    let legal : IsLegal old.board (old.history ++ told reported ∷ []) = subst (λ k. IsLegal old.board k) (event refl) (rw eb at legal) in
-    rw eb (subst (λ k. EndsAgree old.board k vs cs ps) (sym (event refl)) (agrees_quiet old.board old.history (told reported) vs cs ps (told_quiet reported) (told_unsent reported) kept legal))
-agrees_after_tell old new reported vs cs ps (Ok false) kept eb legal event same err = subst (λ p. EndsAgree p.board p.history vs cs ps) (sym (same refl)) kept
-agrees_after_tell old new reported vs cs ps (Err e) kept eb legal event same err = subst (λ p. EndsAgree p.board p.history vs cs ps) (sym err) kept
+pub agrees_after_tell : (old new : Platform) (said : Report) (vs : List CalleeView) (cs : List CallerView) (ps : List (Option ℕ)) (r : Result Bool CoreError) → EndsAgree old.board old.history vs cs ps → new.board ≡ old.board → IsLegal new.board new.history
+    → IfOk r (λ did. did ≡ true → new.history ≡ old.history ++ told said ∷ []) → IfOk r (λ did. did ≡ false → new ≡ old) → OnErr r (new ≡ old) → EndsAgree new.board new.history vs cs ps
+agrees_after_tell old new said vs cs ps (Ok true) kept eb legal event same err =
+    let legal : IsLegal old.board (old.history ++ told said ∷ []) = subst (λ k. IsLegal old.board k) (event refl) (rw eb at legal) in
+    rw eb (subst (λ k. EndsAgree old.board k vs cs ps) (sym (event refl)) (agrees_quiet old.board old.history (told said) vs cs ps (told_quiet said) (told_unsent said) kept legal))
+agrees_after_tell old new said vs cs ps (Ok false) kept eb legal event same err = subst (λ p. EndsAgree p.board p.history vs cs ps) (sym (same refl)) kept
+agrees_after_tell old new said vs cs ps (Err e) kept eb legal event same err = subst (λ p. EndsAgree p.board p.history vs cs ps) (sym err) kept
 
 -- what `Core::advance_on` leaves, whatever it answers
 pub agrees_after_on : (old new : Platform) (asked asked' : List Asked → Type 0) (vs : List CalleeView) (cs : List CallerView) (ps : List (Option ℕ)) (r : Result Bool CoreError) → EndsAgree old.board old.history vs cs ps → new.board ≡ old.board → IsLegal new.board new.history

@@ -77,8 +77,8 @@ told_unasked board h (report.Changed effect) = refl
 told_unasked board h (report.First place) = refl
 told_unasked board h (report.Settled clock rate) = refl
 
-pub told_asks : (old new : Platform) (reported : Report) (r : Result Bool CoreError) → new.board ≡ old.board → IfOk r (λ did. did ≡ true → new.history ≡ old.history ++ told reported ∷ []) → IfOk r (λ did. did ≡ false → new ≡ old) → OnErr r (new ≡ old)
+pub told_asks : (old new : Platform) (said : Report) (r : Result Bool CoreError) → new.board ≡ old.board → IfOk r (λ did. did ≡ true → new.history ≡ old.history ++ told said ∷ []) → IfOk r (λ did. did ≡ false → new ≡ old) → OnErr r (new ≡ old)
     → asks new.board new.history ≡ asks old.board old.history
-told_asks old new reported (Ok true) eb event same err = asked_after old new (told reported) (Ok tt) (told_unasked old.board old.history reported) eb (event refl) tt
-told_asks old new reported (Ok false) eb event same err = ap (λ p. asks p.board p.history) (same refl)
-told_asks old new reported (Err error) eb event same err = ap (λ p. asks p.board p.history) err
+told_asks old new said (Ok true) eb event same err = asked_after old new (told said) (Ok tt) (told_unasked old.board old.history said) eb (event refl) tt
+told_asks old new said (Ok false) eb event same err = ap (λ p. asks p.board p.history) (same refl)
+told_asks old new said (Err error) eb event same err = ap (λ p. asks p.board p.history) err
