@@ -12,7 +12,7 @@ use Rattle.scmi_base.specs.Protocol.{resource_changed}
 use Rattle.scmi_core.specs.Effect.{effect_after}
 use Rattle.scmi_core.specs.History.{deed_after, deeds}
 use Rattle.scmi_core.specs.declared.event.Event.{Event}
-use Rattle.scmi_core.specs.declared.event.Event.TheVariants.{Advance, AdvanceFailed, Command as Called, CommandFailed, Promoted, Reported, Sent}
+use Rattle.scmi_core.specs.declared.event.Event.TheVariants.{Advance, AdvanceFailed, Command as Called, CommandFailed, Promoted, Reported, Sent, Settled}
 use Rattle.scmi_core.proofs.Ties.{effect-table}
 use Rattle.scmi_c.specs.Aside.{IsSmall, Spares, disturbs}
 use Rattle.scmi_c.specs.declared.effect.EffectNumbers.{EffectNumbers}
@@ -21,7 +21,7 @@ use Rattle.scmi_c.specs.Effect.{numbers_of}
 use Rattle.scmi_c.specs.Kept.{Asked, IsAskable}
 use Rattle.scmi_core.specs.Standing.{Standing, StandsAfter}
 use Rattle.scmi_c.specs.Standing.{Held, HasHistory, IsCount, StandsAt, board_of}
-use Rattle.scmi_c.proofs.Undisturbed.{IsQuiet, effect-still, quiet-advance, quiet-advance_failed, quiet-effect, quiet-failed, quiet-malformed, quiet-plain, quiet-promoted, quiet-reported, quiet-sent, short}
+use Rattle.scmi_c.proofs.Undisturbed.{IsQuiet, effect-still, quiet-advance, quiet-advance_failed, quiet-effect, quiet-failed, quiet-malformed, quiet-plain, quiet-promoted, quiet-reported, quiet-sent, quiet-settled, short}
 
 -- whatever history the platform stands at, since its tables say the effect
 pub still : (p k : Held) (event : Event) (x : Asked) → HasHistory p → HasHappened p k event
@@ -74,6 +74,9 @@ still-reported p k effect had happened x may = still p k (Reported effect) x had
 
 pub still-promoted : (p k : Held) (place : ℕ) → HasHistory p → HasHappened p k (Promoted place) → (x : Asked) → IsAskable p x → IsAskable k x
 still-promoted p k place had happened x may = still p k (Promoted place) x had happened (λ change given h at. quiet-promoted (board_of p) h (resource_changed change) place) may
+
+pub still-settled : (p k : Held) (clock rate : ℕ) → HasHistory p → HasHappened p k (Settled clock rate) → (x : Asked) → IsAskable p x → IsAskable k x
+still-settled p k clock rate had happened x may = still p k (Settled clock rate) x had happened (λ change given h at. quiet-settled (board_of p) h (resource_changed change) clock rate) may
 
 pub still-advanced : (p k : Held) → HasHistory p → HasHappened p k Advance → (x : Asked) → IsAskable p x → IsAskable k x
 still-advanced p k had happened x may = still p k Advance x had happened (λ change given h at. quiet-advance (board_of p) h (resource_changed change)) may

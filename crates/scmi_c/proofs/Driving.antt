@@ -14,7 +14,7 @@ use Rattle.scmi_core.specs.Pending.{pending_sets}
 use Rattle.scmi_core.specs.Value.{completion, set_to_change}
 use Rattle.scmi_plan.specs.declared.effect.Effect.{Effect}
 use Rattle.scmi_core.specs.declared.event.Event.{Event}
-use Rattle.scmi_core.specs.declared.event.Event.TheVariants.{Command as Called, Advance, Sent, CommandFailed, AdvanceFailed, Restarted, Promoted, Reported}
+use Rattle.scmi_core.specs.declared.event.Event.TheVariants.{Command as Called, Advance, Sent, CommandFailed, AdvanceFailed, Restarted, Promoted, Reported, Settled}
 use Rattle.scmi_codec.specs.declared.fault.Fault.{Fault}
 use Rattle.scmi_core.specs.declared.pending_set.PendingSet.{PendingSet}
 use Rattle.scmi_core.specs.declared.pending_set.Setting.{Setting}
@@ -47,7 +47,7 @@ pub starts : (p : Held) → StandsAt p [] → p.said ≡ [] → IsDriven p []
 unfolding asks
 starts p at said = (at, said)
 
--- nothing belongs to a posting, to a restart, to a promotion and to a report
+-- nothing belongs to a posting, to a restart, to a promotion, to the rate of a pending set and to a report
 pub drives_sent : (p k : Held) (agent : ℕ) → HasHappened p k (Sent agent) → k.said ≡ p.said → Drives p k (Sent agent)
 drives_sent p k agent happened said = drives p k (Sent agent) happened (λ h at. said)
 
@@ -57,7 +57,10 @@ drives_restarted p k agent happened said = drives p k (Restarted agent) happened
 pub drives_promoted : (p k : Held) (place : ℕ) → HasHappened p k (Promoted place) → k.said ≡ p.said → Drives p k (Promoted place)
 drives_promoted p k place happened said = drives p k (Promoted place) happened (λ h at. said)
 
--- after which a set is pending
+pub drives_settled : (p k : Held) (clock rate : ℕ) → HasHappened p k (Settled clock rate) → k.said ≡ p.said → Drives p k (Settled clock rate)
+drives_settled p k clock rate happened said = drives p k (Settled clock rate) happened (λ h at. said)
+
+-- after a promotion a set is pending
 pub promoted-idle : (p k : Held) (place : ℕ) → HasHappened p k (Promoted place) → (h : List Event) → StandsAt p h → HasPendingAt (board_of p) h place
     → ¬ (IsIdle (board_of k) (h ++ Promoted place ∷ []))
 promoted-idle p k place happened h at within = λ idle.
@@ -164,6 +167,7 @@ refused_after board h (CommandFailed a frame fault) = refused fault (effect_afte
 refused_after board h (AdvanceFailed fault) = refused fault (effect_after board h Advance)
 refused_after board h (Restarted a) = refl
 refused_after board h (Promoted place) = refl
+refused_after board h (Settled clock rate) = refl
 refused_after board h (Reported effect) = refl
 
 refused_from : (board : Board) (before h : List Event) → refused_of (asks_from board before h) ≡ failures_from board before h

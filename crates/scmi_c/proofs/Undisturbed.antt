@@ -1,6 +1,6 @@
 -- What becomes of a command with an effect is the same after an event that does not disturb it.
 use Rattle.std.proofs.lemmas.Bool.{or_parts}
-use Rattle.std.proofs.Common.{rules, tests, ◌≡◌, ℕ, ◌≤◌, ◌||◌, Bool, true, false, List, [], ◌∷◌, ◌++◌, length, drop, option_map, Option, Some, None, IfSome, Result, Ok, Err, IfOk, unwrap_or, refl, sym, ap, subst, ◌∙◌, if◌then◌else◌, arith}
+use Rattle.std.proofs.Common.{rules, tests, ◌≡◌, ℕ, ◌≤◌, ◌||◌, Bool, true, false, List, [], ◌∷◌, ◌++◌, length, drop, map, option_map, Option, Some, None, IfSome, Result, Ok, Err, IfOk, unwrap_or, refl, sym, ap, subst, ◌∙◌, if◌then◌else◌, arith}
 use Rattle.std.specs.Prelude.{⊤}
 use Rattle.std.specs.Option.{option_and_then, option_map_or, option_to_list}
 use Rattle.std.proofs.lemmas.List.Folds.{list_any-append}
@@ -36,7 +36,7 @@ use Rattle.scmi_clock.specs.ClockTable.{enabled_now, rate_later, rate_now, set_r
 use Rattle.scmi_clock.specs.SetFlags.{is_asynchronous, is_response_wanted}
 use Rattle.scmi_clock.proofs.ClockLaws.{clock_laws, for_changes}
 use Rattle.scmi_core.specs.declared.event.Event.{Event}
-use Rattle.scmi_core.specs.declared.event.Event.TheVariants.{Advance, AdvanceFailed, Command as Called, CommandFailed, Promoted, Reported, Sent}
+use Rattle.scmi_core.specs.declared.event.Event.TheVariants.{Advance, AdvanceFailed, Command as Called, CommandFailed, Promoted, Reported, Sent, Settled}
 use Rattle.scmi_core.specs.declared.pending_set.PendingSet.{PendingSet}
 use Rattle.scmi_core.specs.declared.pending_set.Setting.{Setting}
 use Rattle.scmi_core.specs.declared.pending_set.Setting.TheVariants as setting
@@ -45,7 +45,7 @@ use Rattle.scmi_core.specs.Effect.{effect_after, effect_in, effect_of, effect_re
 use Rattle.scmi_core.specs.History.{deed_after, deeds}
 use Rattle.scmi_core.specs.Legal.{IsLegal}
 use Rattle.scmi_core.specs.Outbox.{situation_after}
-use Rattle.scmi_core.specs.Pending.{acceptance, has_set_of, is_set_by, promoted, rate_set, state_set}
+use Rattle.scmi_core.specs.Pending.{acceptance, has_set_of, is_set_by, promoted, rate_set, setting_with, settled, state_set}
 use Rattle.scmi_core.specs.Permissions.{permission_in}
 use Rattle.scmi_core.specs.ReadCommand.{command_on, lacks_protocol}
 use Rattle.scmi_core.specs.Reply.{fits_channel, reply_words, words_given}
@@ -276,6 +276,27 @@ pub quiet-promoted : (board : Board) (h : List Event) (r : Resource) (place : �
 quiet-promoted board h r place = record {
   permits = λ b d scope. refl;
   leaves = λ pending none. with-more r (promoted place pending) [] refl (promoted-any (λ p. is_set_by r p.setting) place pending ∙ none);
+}
+
+-- a pending set that gets another rate stays one of its clock
+settled-own : (r : Resource) (clock rate : ℕ) (p : PendingSet) → is_set_by r (settled clock rate p).setting ≡ is_set_by r p.setting
+settled-own r clock rate p = by r p.setting where
+  by : (r : Resource) (s : Setting) → is_set_by r (setting_with clock rate s) ≡ is_set_by r s
+  by (resource.Domain d) (setting.State e state) = refl
+  by (resource.Domain d) (setting.Rate c asked) = refl
+  by (resource.Clock k) (setting.State e state) = refl
+  by (resource.Clock k) (setting.Rate c asked) = refl
+
+settled-any : (r : Resource) (clock rate : ℕ) (pending : List PendingSet) → has_set_of r (map (settled clock rate) pending) ≡ has_set_of r pending
+settled-any r clock rate [] = refl
+settled-any r clock rate (p ∷ pending) =
+    ap (λ (own : Bool). own || has_set_of r (map (settled clock rate) pending)) (settled-own r clock rate p)
+    ∙ ap (λ (others : Bool). is_set_by r p.setting || others) (settled-any r clock rate pending)
+
+pub quiet-settled : (board : Board) (h : List Event) (r : Resource) (clock rate : ℕ) → IsQuiet board r (deed_after board (deeds board h) (Settled clock rate))
+quiet-settled board h r clock rate = record {
+  permits = λ b d scope. refl;
+  leaves = λ pending none. with-more r (map (settled clock rate) pending) [] refl (settled-any r clock rate pending ∙ none);
 }
 
 pub quiet-advance : (board : Board) (h : List Event) (r : Resource) → IsQuiet board r (deed_after board (deeds board h) Advance)

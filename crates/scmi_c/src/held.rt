@@ -3,10 +3,10 @@ ghost use Rattle.std.specs.Prelude.{◌≡◌, ◌<◌, ◌↔◌, ◌⊎◌, �
 ghost use Rattle.scmi_plan.specs.Agent.{IsAgent};
 ghost use Rattle.scmi_plan.specs.Plan.{IsValid};
 ghost use Rattle.scmi_plan.specs.declared.effect.Effect.TheVariants.{Enabled, Rate};
-ghost use Rattle.scmi_core.specs.History.{HasNothingFor, HasPendingAt, IsIdle};
+ghost use Rattle.scmi_core.specs.History.{HasNothingFor, IsIdle};
 ghost use Rattle.scmi_core.specs.Value.{HasNoResource, HasNoState};
 ghost use Rattle.scmi_core.specs.declared.event.Event.{Event};
-ghost use Rattle.scmi_core.specs.declared.event.Event.TheVariants.{Advance, Sent, AdvanceFailed, Restarted, Promoted, Reported};
+ghost use Rattle.scmi_core.specs.declared.event.Event.TheVariants.{Advance, Sent, AdvanceFailed, Restarted, Reported};
 ghost use Rattle.scmi_c.specs.Calls.{HasHappened};
 ghost use Rattle.scmi_c.specs.Driven.{Drives, HappenInTurn, IsDriven};
 ghost use Rattle.scmi_c.specs.Kept.{KeepsAskable};
@@ -107,57 +107,6 @@ impl Held {
         self.said = said;
         count(&mut self.events);
         Ok(())
-    }
-
-    /// Puts the pending set at a place before the others; `false` if none is pending there, and then
-    /// nothing changed.
-    pub fn promote(&mut self, place: u32) -> bool
-        ensures pending { (h : List Event) → StandsAt self.old h →
-            (result ≡ true) ↔ HasPendingAt (board_of self.old) h place }
-        ensures event { result ≡ true → HasHappened self.old self.new (Promoted place) }
-        ensures driven { result ≡ true → Drives self.old self.new (Promoted place) }
-        ensures history { HasHistory self.old }
-        ensures askable { KeepsAskable self.old self.new }
-        ensures same { result ≡ false → self.new ≡ self.old }
-    {
-        if !self.platform.promote(place as usize) {
-            return false;
-        }
-        count(&mut self.events);
-        true
-    }
-
-    /// Completes the pending set at a place before the others; `false` if none is pending there,
-    /// and then nothing changed.
-    pub fn advance_at(&mut self, place: u32) -> bool
-        ensures pending { (h : List Event) → StandsAt self.old h →
-            (result ≡ true) ↔ HasPendingAt (board_of self.old) h place }
-        ensures ok { result ≡ true → HappenInTurn self.old self.new (Promoted place) Advance }
-        ensures askable { KeepsAskable self.old self.new }
-        ensures same { result ≡ false → self.new ≡ self.old }
-    {
-        if !self.promote(place) {
-            return false;
-        }
-        // Never `false`, since a set is pending.
-        self.advance()
-    }
-
-    /// Takes off the pending set at a place before the others, whose change the hardware refused
-    /// with this fault; `false` if none is pending there, and then nothing changed.
-    pub fn advance_failed_at(&mut self, place: u32, fault: Fault) -> bool
-        ensures pending { (h : List Event) → StandsAt self.old h →
-            (result ≡ true) ↔ HasPendingAt (board_of self.old) h place }
-        ensures ok { result ≡ true
-            → HappenInTurn self.old self.new (Promoted place) (AdvanceFailed fault) }
-        ensures askable { KeepsAskable self.old self.new }
-        ensures same { result ≡ false → self.new ≡ self.old }
-    {
-        if !self.promote(place) {
-            return false;
-        }
-        // Never refused, since a set is pending.
-        self.advance_failed(Some(fault)).is_ok()
     }
 
     /// Takes the first message off an agent's outbox, as posted. `NoAgent` if the board lacks the
