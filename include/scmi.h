@@ -459,6 +459,15 @@ uint32_t scmi_advance_at(scmi_platform *platform, uint32_t place);
 uint32_t scmi_fail_advance_at(scmi_platform *platform, uint32_t place);
 
 /*
+ * The hardware gives the pending set of a clock that is free this rate, and not the one that was asked for: in Hz, by
+ * its lower and upper word. The set stays pending at its place, and scmi_pending and scmi_ask_advance give this rate;
+ * its completion gives it to the clock and to the delayed response. The board may lack the rate. It counts as one
+ * event. SCMI_DONE, SCMI_NO_PLATFORM, SCMI_ASKED or SCMI_NOTHING (no set of that clock is pending, the clock is not
+ * free, or the board lacks it).
+ */
+uint32_t scmi_settled(scmi_platform *platform, uint32_t clock, uint32_t low, uint32_t high);
+
+/*
  * Writes the first message of an agent's outbox (a delayed response or a notification) into an area, with
  * status word 0; the platform stays as it was, and the message in the outbox. SCMI_DONE, SCMI_NO_PLATFORM,
  * SCMI_NO_AGENT, SCMI_NOTHING (the outbox is empty) or SCMI_NOT_FREE (the area holds a message).

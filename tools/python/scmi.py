@@ -9,9 +9,9 @@
     for header, words in platform.messages(1):       # delayed responses and notifications
         ..
 
-The calls of scmi.h have their names here: answer, ask, commit, commit_rate, fail, refuse, reply, advance,
-ask_advance, fail_advance, refuse_advance, next, sent, restart, domain_is, clock_is, channel, domain_state, clock_rate,
-clock_enabled, pending, outbox_length, history_length, version.
+The calls of scmi.h have their names here: answer, ask, commit, commit_rate, fail, refuse, set_aside, take_up, reply,
+advance, ask_advance, fail_advance, refuse_advance, advance_at, fail_advance_at, settled, next, sent, restart,
+domain_is, clock_is, channel, domain_state, clock_rate, clock_enabled, pending, outbox_length, history_length, version.
 
 An area is a bytearray of the size of its agent's channel, AREA_BYTES bytes unless the board sets another size. It is
 changed in place: answer, ask, commit, commit_rate, fail, refuse and next are the calls of C that take its size
@@ -124,8 +124,8 @@ def load(file=None):
             ("scmi_refuse_in", *area, ctypes.c_int32), ("scmi_set_aside",), ("scmi_take_up", number),
             ("scmi_advance",), ("scmi_ask_advance", effect), ("scmi_fail_advance",),
             ("scmi_refuse_advance", ctypes.c_int32), ("scmi_advance_at", number), ("scmi_fail_advance_at", number),
-            ("scmi_next_in", number, *area), ("scmi_sent", number), ("scmi_restart", number),
-            ("scmi_domain_is", number, number), ("scmi_clock_is", number, number, number, number),
+            ("scmi_settled", number, number, number), ("scmi_next_in", number, *area), ("scmi_sent", number),
+            ("scmi_restart", number), ("scmi_domain_is", number, number), ("scmi_clock_is", number, number, number, number),
             ("scmi_channel", number, ctypes.POINTER(_Channel)), ("scmi_domain_state", number, word),
             ("scmi_clock_rate", number, word, word), ("scmi_clock_enabled", number, word),
             ("scmi_pending", number, word, effect), ("scmi_outbox_length", number, count),
@@ -261,10 +261,16 @@ class Platform:
         return self._give(self._library.scmi_refuse_advance(self._handle, -STATUSES.index(status)))
 
     def advance_at(self, place):
+        """Completes the pending set at a place, 0 the first, before the others."""
         return self._give(self._library.scmi_advance_at(self._handle, place))
 
     def fail_advance_at(self, place):
+        """As advance_at, of a set whose change the hardware refused."""
         return self._give(self._library.scmi_fail_advance_at(self._handle, place))
+
+    def settled(self, clock, rate):
+        """The hardware gives the pending set of a free clock this rate, in Hz; False if there is no such set."""
+        return self._give(self._library.scmi_settled(self._handle, clock, *self._rate(rate)))
 
     def next(self, agent, area):
         return self._over(self._library.scmi_next_in, area, agent)
