@@ -12,8 +12,8 @@ use crate::held::{Held, count};
 use scmi_codec::Fault;
 
 impl Held {
-    /// Puts the pending set at a place before the others; `false` if none is pending there, and then
-    /// nothing changed.
+    /// Puts the pending set at a place before the others; `false` if none is pending there, and
+    /// then nothing changed.
     pub fn promote(&mut self, place: u32) -> bool
         ensures pending { (h : List Event) → StandsAt self.old h →
             (result ≡ true) ↔ HasPendingAt (board_of self.old) h place }

@@ -15,11 +15,11 @@ use crate::handle::Handle;
 use scmi_codec::rate_of;
 use std::alloc::Global;
 
-/// The hardware gives the pending set of a free clock this rate in Hz, of which `low` and `high` are
-/// the words, and not the one that was asked for. The set stays pending at its place; its completion
-/// gives the clock this rate, and so does its delayed response. `DONE`; `NO_PLATFORM`; `ASKED` if a
-/// command waits to be committed or to fail; `NOTHING` if the clock is not free or has no pending
-/// set. After another number than `DONE` nothing changed.
+/// The hardware gives the pending set of a free clock this rate in Hz, of which `low` and `high`
+/// are the words, and not the one that was asked for. The set stays pending at its place. Once it
+/// completes, the clock has this rate, and its delayed response says it. `DONE`; `NO_PLATFORM`;
+/// `ASKED` if a command waits to be committed or to fail; `NOTHING` if the clock is not free or has
+/// no pending set. After another number than `DONE` nothing changed.
 #[unsafe(no_mangle)]
 pub extern "C" fn scmi_settled(
     alloc: Global,
