@@ -9,14 +9,14 @@ use Rattle.scmi_core.specs.declared.event.Event.{Event}
 use Rattle.scmi_core.specs.declared.event.Event.TheVariants as event
 use Rattle.scmi_core.specs.declared.event.Event.TheVariants.{Command, CommandFailed}
 use Rattle.scmi_codec.specs.declared.frame.Frame.{Frame}
-use Rattle.scmi_core.specs.Legal.{CanFollow, IsLegal}
+use Rattle.scmi_core.specs.Legal.{CanFollow, IsLegal, told}
 use Rattle.scmi_core.proofs.Legal.{IsLegal-front, IsLegal-last}
 use Rattle.scmi_codec.specs.declared.fault.Fault.TheVariants.{HardwareError}
 use Rattle.scmi_judge.specs.Behind.{Behind, FailsPlainly, Fits, IsAnswered}
 use Rattle.scmi_judge.specs.Exact.{AreClosed, AreTried, AreTriedActs, EndsShown, HaveGrown, HaveKept, IsKept, IsTried, IsTriedAbove, IsTriedWhole}
 use Rattle.scmi_judge.specs.Guess.{CanCome, CanMove, CannotCome, GoesOn, IsAmong, IsGuess, IsReal, command_at}
 use Rattle.scmi_judge.specs.declared.entry.Entry.{Entry}
-use Rattle.scmi_judge.specs.declared.entry.Entry.TheVariants.{Answered, Asked, Delivered, GivenUp, Replied}
+use Rattle.scmi_judge.specs.declared.entry.Entry.TheVariants.{Answered, Asked, Delivered, GivenUp, Replied, Told}
 use Rattle.scmi_judge.specs.declared.guess.Guess.{Guess}
 use Rattle.scmi_judge.specs.Moves.{Move, history, outstanding}
 use Rattle.scmi_judge.specs.Unseen.{IsOf, count_of, step_of}
@@ -251,6 +251,8 @@ tried-whole may g guesses completes fails acts board entries h
     (Move.happens (event.Promoted place)) guess can = absurd can.unseen
 tried-whole may g guesses completes fails acts board entries h
     (Move.happens (event.Reported effect)) guess can = absurd can.unseen
+tried-whole may g guesses completes fails acts board entries h
+    (Move.happens (event.Settled clock rate)) guess can = absurd can.unseen
 tried-whole may g guesses completes fails acts board entries h (Move.asks k a f) guess can =
     absurd can.unseen
 tried-whole may g guesses completes fails acts board entries h (Move.frees k) guess can =
@@ -393,6 +395,9 @@ legal-front may board entries h after (Replied k a f x) fits legal =
     subst (λ m. IsLegal board (history m)) fits.0 legal
 legal-front may board entries h after (GivenUp k) fits legal =
     subst (λ m. IsLegal board (history m)) fits legal
+legal-front may board entries h after (Told report) fits legal =
+    legal-before board h (Move.happens (told report))
+    (subst (λ m. IsLegal board (history m)) fits legal)
 
 -- in a closed set is each legal history behind the entries, if each that ends with the last of them is
 module _ (may : Unseen) (board : Board) (guesses : List Guess) (closed : AreClosed may guesses) where

@@ -5,7 +5,7 @@ use Rattle.scmi_judge.specs.Behind.{Behind, HasLegalHistory}
 use Rattle.scmi_judge.specs.Due.{IsDue, in_place}
 use Rattle.scmi_judge.specs.Guess.{Gives, IsReal}
 use Rattle.scmi_judge.specs.declared.entry.Entry.{Entry}
-use Rattle.scmi_judge.specs.declared.entry.Entry.TheVariants.{Answered, Asked, Delivered, GivenUp, Replied}
+use Rattle.scmi_judge.specs.declared.entry.Entry.TheVariants.{Answered, Asked, Delivered, GivenUp, Replied, Told}
 use Rattle.scmi_judge.specs.declared.guess.Guess.{Guess}
 use Rattle.scmi_judge.specs.declared.unseen.Unseen.{Unseen}
 use Rattle.scmi_judge.specs.declared.verdict.Verdict.{Verdict}
@@ -16,6 +16,7 @@ due-there : (v : Verdict) (entry : Entry) (Does : Entry → Type 0) → Does (in
 due-there verdict.Same entry Does is = tt
 due-there verdict.NoAgent entry Does is = tt
 due-there verdict.NoMessage entry Does is = tt
+due-there verdict.NoReport entry Does is = tt
 due-there (verdict.Answer due) (Answered a frame seen) Does is = is
 due-there (verdict.Answer due) (Delivered a seen) Does is = tt
 due-there (verdict.Message due) (Answered a frame seen) Does is = tt
@@ -23,9 +24,11 @@ due-there (verdict.Message due) (Delivered a seen) Does is = is
 due-there (verdict.Answer due) (Asked k a frame) Does is = tt
 due-there (verdict.Answer due) (Replied k a frame seen) Does is = is
 due-there (verdict.Answer due) (GivenUp k) Does is = tt
+due-there (verdict.Answer due) (Told report) Does is = tt
 due-there (verdict.Message due) (Asked k a frame) Does is = tt
 due-there (verdict.Message due) (Replied k a frame seen) Does is = tt
 due-there (verdict.Message due) (GivenUp k) Does is = tt
+due-there (verdict.Message due) (Told report) Does is = tt
 
 -- what a guess gives that may be behind some entries has a history with these
 given-legal : (may : Unseen) (board : Board) (entries : List Entry) (entry : Entry) (g new : Guess) → Gives may g entry new → IsReal may board entries g

@@ -6,6 +6,8 @@ use Rattle.std.proofs.lemmas.List.{append-nil, append_cancel_left, ext_get_or, g
 use Rattle.std.proofs.lemmas.Bool.{eq-eqb, eqb-false, eqb-true, ne_eqb}
 use Rattle.scmi_plan.specs.Agent.{IsAgent}
 use Rattle.scmi_plan.specs.Board.{Board}
+use Rattle.scmi_plan.specs.declared.report.Report.{Report}
+use Rattle.scmi_plan.specs.declared.report.Report.TheVariants.{Changed, First, Settled}
 use Rattle.scmi_codec.specs.declared.message.Message.{Message}
 use Rattle.scmi_codec.specs.declared.frame.Frame.{Frame}
 use Rattle.scmi_codec.specs.declared.frame.Answer.{Answer}
@@ -14,7 +16,7 @@ use Rattle.scmi_core.specs.declared.event.Event.TheVariants.{Command, Sent, Comm
 use Rattle.scmi_core.specs.Effect.{effect_after}
 use Rattle.scmi_codec.specs.declared.fault.Fault.{Fault}
 use Rattle.scmi_core.specs.History.{answer_to, delivered_messages, outbox}
-use Rattle.scmi_core.specs.Legal.{CanFollow, IsLegal}
+use Rattle.scmi_core.specs.Legal.{CanFollow, IsLegal, told}
 use Rattle.scmi_core.specs.Outbox.{is_sent_by}
 use Rattle.scmi_core.specs.Reply.{failed_answer}
 use Rattle.scmi_core.specs.Standing.{MovesOn, Standing, StandsAfter}
@@ -23,6 +25,7 @@ use Rattle.scmi_core.proofs.Legal.{IsLegal-last}
 use Rattle.scmi_judge.specs.Behind.{Behind, Fits, IsAnswered, MayFail, IsUnseenEvent, taken_by}
 use Rattle.scmi_judge.specs.Guess.{CanCome, CanShow, CannotCome, Gives, GivesNot, GoesOn, IsGuess, posted_to}
 use Rattle.scmi_judge.specs.Moves.{Move, history, outstanding_at}
+use Rattle.scmi_judge.specs.Shown.{message_shown}
 use Rattle.scmi_judge.specs.Unseen.{IsOf}
 use Rattle.scmi_judge.specs.declared.entry.Entry.{Entry}
 use Rattle.scmi_judge.specs.declared.guess.Guess.{Guess}
@@ -30,7 +33,7 @@ use Rattle.scmi_judge.specs.declared.outstanding.Outstanding.{Outstanding}
 use Rattle.scmi_judge.specs.declared.unseen.Step.{Step}
 use Rattle.scmi_judge.specs.declared.unseen.Step.TheVariants.{Post}
 use Rattle.scmi_judge.specs.declared.unseen.Unseen.{Unseen}
-use Rattle.scmi_judge.specs.declared.entry.Entry.TheVariants.{Answered, Delivered}
+use Rattle.scmi_judge.specs.declared.entry.Entry.TheVariants.{Answered, Delivered, Told}
 
 -- a guess's history is legal
 pub guess-legal : (may : Unseen) (board : Board) (g : Guess) (entries : List Entry)
@@ -267,19 +270,19 @@ pub stranger-message : (may : Unseen) (g : Guess) (a : ℕ) (m : Message) → ¬
 stranger-message may g a m away board entries moves after guess can =
     away (subst (λ b. IsAgent (length b.agents) a) (sym guess.of_board) can.fits.0)
 
--- a platform that answers a command, executed or refused by the hardware
-module _ (may : Unseen) (g new : Guess) (a : ℕ) (f : Frame) (x : Answer) (e : Event) where
-  answered-each : ((b : ℕ) → is_sent_by b e ≡ false) → MovesOn g.platform e new.platform
-      → new.platform.board ≡ g.platform.board → new.posted ≡ g.posted
-      → new.outstanding ≡ g.outstanding
+-- a platform after an event that an entry shows, such as a command with its answer, executed or
+-- refused by the hardware
+module _ (may : Unseen) (g new : Guess) (entry : Entry) (e : Event) where
+  shown-each : ((b : ℕ) → message_shown b entry ≡ None) → ((b : ℕ) → is_sent_by b e ≡ false)
+      → MovesOn g.platform e new.platform → new.platform.board ≡ g.platform.board
+      → new.posted ≡ g.posted → new.outstanding ≡ g.outstanding
       → (board : Board) (entries : List Entry) (moves after : List Move)
       → after ≡ Move.happens e ∷ moves → IsGuess may board g entries moves
-      → Fits may board entries moves (Answered a f x) after
-      → IsGuess may board new (Answered a f x ∷ entries) after
-  answered-each unsent goes same posted commands board entries moves after are guess fits =
+      → Fits may board entries moves entry after → IsGuess may board new (entry ∷ entries) after
+  shown-each silent unsent goes same posted commands board entries moves after are guess fits =
       record {
         of_board = same ∙ guess.of_board;
-        behind = Behind.shown guess.behind (Answered a f x) after fits;
+        behind = Behind.shown guess.behind entry after fits;
         stands =
             subst (λ ms. StandsAfter new.platform (history ms)) (sym are)
             (goes (history moves) guess.stands);
@@ -289,7 +292,8 @@ module _ (may : Unseen) (g new : Guess) (a : ℕ) (f : Frame) (x : Answer) (e : 
             (unsent b) ∙ guess.channels b is
             ∙ ap (λ ps. taken_by b entries ++ option_to_list (get_or ps (b - 1) None)) (sym posted)
             ∙ ap (λ ms. ms ++ option_to_list (posted_to new b))
-            (sym (append-nil (taken_by b entries)));
+            (sym (ap (λ o. taken_by b entries ++ option_to_list o) (silent b)
+            ∙ append-nil (taken_by b entries)));
         commands =
             λ k. ap (λ cs. get_or cs k None) commands ∙ guess.commands k
             ∙ ap (outstanding_at k) (sym are);
@@ -332,8 +336,8 @@ gives-done may g new a f x goes same posted commands due only =
           → IsAnswered board (history moves) a f fits.0 x
           → IsGuess may board new (Answered a f x ∷ entries) after
       by board entries moves after guess legal fits (inl done) =
-          answered-each may g new a f x (Command a f)
-          (λ b. refl) goes same posted commands board entries moves after
+          shown-each may g new (Answered a f x) (Command a f)
+          (λ b. refl) (λ b. refl) goes same posted commands board entries moves after
           (fits.1 ∙ ap (λ e. Move.happens e ∷ moves) done.0) guess fits
       by board entries moves after guess legal fits (inr failed) =
           let are = fits.1 ∙ ap (λ e. Move.happens e ∷ moves) failed.1 in
@@ -368,8 +372,8 @@ gives-failed may g new a f x fault goes same posted commands allowed due only so
           → IsAnswered board (history moves) a f fits.0 x
           → IsGuess may board new (Answered a f x ∷ entries) after
       by board entries moves after guess fits (inr failed) =
-          answered-each may g new a f x (CommandFailed a f fault)
-          (λ b. refl) goes same posted commands board entries moves after
+          shown-each may g new (Answered a f x) (CommandFailed a f fault)
+          (λ b. refl) (λ b. refl) goes same posted commands board entries moves after
           (fits.1 ∙ ap (λ e. Move.happens e ∷ moves) failed.1
           ∙ ap (λ y. Move.happens (CommandFailed a f y) ∷ moves)
           (sole (history moves) guess.stands failed.0 failed.2)) guess fits
@@ -411,6 +415,44 @@ stranger-answer may g a f x away board entries moves after guess can = by can.fi
       here (IsLegal-last board (history moves) (CommandFailed a f failed.0)
       (subst (λ ms. IsLegal board (history ms))
       (fits.1 ∙ ap (λ e. Move.happens e ∷ moves) failed.1) can.legal)).0
+
+-- what the hardware tells posts nothing
+pub told-unsent : (report : Report) (b : ℕ) → is_sent_by b (told report) ≡ false
+told-unsent (Changed effect) b = refl
+told-unsent (First place) b = refl
+told-unsent (Settled clock rate) b = refl
+
+-- a platform that takes what the hardware told
+pub gives-told : (may : Unseen) (g new : Guess) (report : Report)
+    → MovesOn g.platform (told report) new.platform → new.platform.board ≡ g.platform.board
+    → new.posted ≡ g.posted → new.outstanding ≡ g.outstanding → Gives may g (Told report) new
+gives-told may g new report goes same posted commands =
+    record {
+      some = λ board entries moves guess. (
+        Move.happens (told report) ∷ moves,
+        record {
+          fits = refl;
+          legal =
+              moved-legal board g.platform new.platform (told report)
+              (history moves) guess.of_board same goes guess.stands;
+        },
+      );
+      each = λ board entries moves after guess can.
+          shown-each may g new (Told report) (told report)
+          (λ b. refl) (told-unsent report) goes same posted commands board entries moves after
+          can.fits guess can.fits;
+    }
+
+-- one that can't take it
+pub untaken-report : (may : Unseen) (g : Guess) (report : Report)
+    → ((h : List Event) → StandsAfter g.platform h
+    → ¬ (CanFollow g.platform.board h (told report)))
+    → GivesNot may g (Told report)
+untaken-report may g report cannot board entries moves after guess can =
+    cannot (history moves) guess.stands
+    (subst (λ b. CanFollow b (history moves) (told report)) (sym guess.of_board)
+    (IsLegal-last board (history moves) (told report)
+    (subst (λ ms. IsLegal board (history ms)) can.fits can.legal)))
 
 -- at the start nothing was posted, and no command is outstanding
 eight_none : (X : Type 0) → List (Option X)

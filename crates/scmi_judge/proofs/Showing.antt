@@ -6,32 +6,44 @@ use Rattle.std.proofs.lemmas.List.{append-nil, reverse-append}
 use Rattle.std.proofs.lemmas.List.Elements.{All-cons, All-head, All-nil, All-push, filter_map-append}
 use Rattle.std.proofs.lemmas.Bool.{eq-eqb, ne_eqb}
 use Rattle.scmi_plan.specs.Board.{Board}
+use Rattle.scmi_plan.specs.declared.report.Report.{Report}
+use Rattle.scmi_plan.specs.declared.report.Report.TheVariants as reports
+use Rattle.scmi_plan.specs.declared.report.Report.TheVariants.{Changed, First}
 use Rattle.scmi_codec.specs.declared.message.Message.{Message}
 use Rattle.scmi_codec.specs.declared.frame.Frame.{Frame}
 use Rattle.scmi_codec.specs.declared.frame.Answer.{Answer}
 use Rattle.scmi_core.specs.declared.event.Event.{Event}
-use Rattle.scmi_core.specs.declared.event.Event.TheVariants.{Command, Advance, Sent, CommandFailed, AdvanceFailed, Restarted, Promoted, Reported}
+use Rattle.scmi_core.specs.declared.event.Event.TheVariants.{Command, Advance, Sent, CommandFailed, AdvanceFailed, Restarted, Promoted, Reported, Settled}
 use Rattle.scmi_core.specs.Agents.{answer_for, answers_to, frame_from, frames_of}
 use Rattle.scmi_core.specs.History.{delivered_messages, outbox}
-use Rattle.scmi_core.specs.Legal.{IsLegal}
+use Rattle.scmi_core.specs.Legal.{IsLegal, told}
 use Rattle.scmi_core.specs.Plain.{IsNoRestart}
 use Rattle.scmi_core.proofs.Deeds.{fold_with_prefix-push}
-use Rattle.scmi_core.proofs.Laws.{IsQuiet, advance, advance_failed, restarted, sent_to, answers_empty, answers_quiet, delivered_empty, delivered_kept, delivered_other, delivered_sent, frames_empty, frames_quiet}
+use Rattle.scmi_core.proofs.Laws.{IsQuiet, advance, advance_failed, promoted, reported, restarted, sent_to, settled, answers_empty, answers_quiet, delivered_empty, delivered_kept, delivered_other, delivered_sent, frames_empty, frames_quiet}
 use Rattle.scmi_core.proofs.Legal.{IsLegal-front, IsLegal-last}
 use Rattle.scmi_judge.specs.Behind.{Behind, Fits, HasAtMostOne, IsAnswered, IsAtOnce, IsEvent, IsUnseen, IsUnseenEvent, taken_by}
-use Rattle.scmi_judge.specs.Moves.{Move, history, outstanding, outstanding_at}
-use Rattle.scmi_judge.specs.Shown.{answer_shown, frame_shown, message_shown}
+use Rattle.scmi_judge.specs.Moves.{Move, history, outstanding, outstanding_at, told_event}
+use Rattle.scmi_judge.specs.Shown.{answer_shown, frame_shown, message_shown, told_shown}
 use Rattle.scmi_judge.specs.declared.entry.Entry.{Entry}
-use Rattle.scmi_judge.specs.declared.entry.Entry.TheVariants.{Answered, Asked, Delivered, GivenUp, Replied}
+use Rattle.scmi_judge.specs.declared.entry.Entry.TheVariants.{Answered, Asked, Delivered, GivenUp, Replied, Told}
 use Rattle.scmi_judge.specs.declared.unseen.Unseen.{Unseen}
 use Rattle.scmi_judge.proofs.Different.{first-of}
 use Rattle.scmi_judge.proofs.Among.{legal-before, legal-front}
-use Rattle.scmi_judge.proofs.Guessing.{decide}
+use Rattle.scmi_judge.proofs.Guessing.{decide, told-unsent}
 
 -- what one more entry shows
 shown-more : {X : Type 0} (shows : Entry → Option X) (entry : Entry) (entries : List Entry)
     → filter_map shows (reverse (entry ∷ entries)) ≡ filter_map shows (reverse entries) ++ cons_option (shows entry) []
 shown-more shows entry entries = ap (filter_map shows) (reverse-append (entry ∷ []) entries) ∙ filter_map-append shows (reverse entries) (entry ∷ [])
+
+-- one that shows nothing, as a message that was taken shows no frame, adds none
+nothing-shown : {X : Type 0} (shows : Entry → Option X) (entry : Entry) (entries : List Entry)
+    → shows entry ≡ None
+    → filter_map shows (reverse entries) ≡ filter_map shows (reverse (entry ∷ entries))
+nothing-shown shows entry entries none =
+    sym (shown-more shows entry entries
+    ∙ ap (λ o. filter_map shows (reverse entries) ++ cons_option o []) none
+    ∙ append-nil (filter_map shows (reverse entries)))
 
 -- an unseen event is no command
 quiet : (may : Unseen) (board : Board) (entries : List Entry) (h : List Event) (e : Event)
@@ -44,6 +56,13 @@ quiet may board entries h (CommandFailed a f fault) is = absurd is
 quiet may board entries h (Restarted a) is = restarted a
 quiet may board entries h (Promoted place) is = absurd is
 quiet may board entries h (Reported effect) is = absurd is
+quiet may board entries h (Settled clock rate) is = absurd is
+
+-- nor is what the hardware told
+quiet-told : (report : Report) → IsQuiet (told report)
+quiet-told (Changed effect) = reported effect
+quiet-told (First place) = promoted place
+quiet-told (reports.Settled clock rate) = settled clock rate
 
 frames-more : (a : ℕ) (h : List Event) (e : Event) → frames_of a (h ++ e ∷ []) ≡ frames_of a h ++ cons_option (frame_from a e) []
 unfolding frames_of
@@ -87,6 +106,9 @@ module _ (may : Unseen) (board : Board) where
       absurd (All-head IsAtOnce (Replied j b f x) entries all)
   none-outstanding (Behind.shown {entries} {moves = h} behind (GivenUp j) after fits) all k =
       absurd (All-head IsAtOnce (GivenUp j) entries all)
+  none-outstanding (Behind.shown {entries} {moves = h} behind (Told report) after fits) all k =
+      ap (outstanding_at k) fits
+      ∙ none-outstanding behind (rest-at-once (Told report) entries all) k
 
   -- so none is executed that an entry does not show
   none-executes : {entries : List Entry} {h : List Move} → Behind may board entries h
@@ -119,6 +141,10 @@ module _ (may : Unseen) (board : Board) where
       absurd (All-head IsAtOnce (Replied j b f x) entries all)
   events-alone (Behind.shown {entries} {moves = h} behind (GivenUp j) after fits) all =
       absurd (All-head IsAtOnce (GivenUp j) entries all)
+  events-alone (Behind.shown {entries} {moves = h} behind (Told report) after fits) all =
+      subst (All IsEvent) (sym fits)
+      (All-cons IsEvent (Move.happens (told report)) h tt
+      (events-alone behind (rest-at-once (Told report) entries all)))
 
   -- an answered command, done or failed, adds its frame and its answer
   frames-answered : (entries : List Entry) (h after : List Move) (b : ℕ) (f : Frame) (x : Answer)
@@ -162,11 +188,6 @@ module _ (may : Unseen) (board : Board) where
     by (inl done) = more (Command b f) (ap (λ y. if a == b then y ∷ [] else []) (sym done.1) ∙ one-if (a == b) x) done.0
     by (inr failed) = more (CommandFailed b f failed.0) (ap (λ y. if a == b then y ∷ [] else []) (sym failed.2) ∙ one-if (a == b) x) failed.1
 
-  -- a message that was taken adds none
-  nothing-shown : {X : Type 0} (shows : Entry → Option X) (entry : Entry) (entries : List Entry) → shows entry ≡ None → filter_map shows (reverse entries) ≡ filter_map shows (reverse (entry ∷ entries))
-  nothing-shown shows entry entries none =
-      sym (shown-more shows entry entries ∙ ap (λ o. filter_map shows (reverse entries) ++ cons_option o []) none ∙ append-nil (filter_map shows (reverse entries)))
-
   pub frames-shown : {entries : List Entry} {h : List Move} → Behind may board entries h
       → All IsAtOnce entries → (a : ℕ)
       → frames_of a (history h) ≡ filter_map (frame_shown a) (reverse entries)
@@ -191,6 +212,11 @@ module _ (may : Unseen) (board : Board) where
       absurd (All-head IsAtOnce (Replied j b f x) entries all)
   frames-shown (Behind.shown {entries} {moves = h} behind (GivenUp j) after fits) all a =
       absurd (All-head IsAtOnce (GivenUp j) entries all)
+  frames-shown (Behind.shown {entries} {moves = h} behind (Told report) after fits) all a =
+      ap (λ ms. frames_of a (history ms)) fits
+      ∙ frames_quiet a (history h) (told report) (quiet-told report)
+      ∙ frames-shown behind (rest-at-once (Told report) entries all) a
+      ∙ nothing-shown (frame_shown a) (Told report) entries refl
 
   pub answers-shown : {entries : List Entry} {h : List Move} → Behind may board entries h
       → All IsAtOnce entries → (a : ℕ)
@@ -216,6 +242,11 @@ module _ (may : Unseen) (board : Board) where
       absurd (All-head IsAtOnce (Replied j b f x) entries all)
   answers-shown (Behind.shown {entries} {moves = h} behind (GivenUp j) after fits) all a =
       absurd (All-head IsAtOnce (GivenUp j) entries all)
+  answers-shown (Behind.shown {entries} {moves = h} behind (Told report) after fits) all a =
+      ap (λ ms. answers_to board a (history ms)) fits
+      ∙ answers_quiet board a (history h) (told report) (quiet-told report)
+      ∙ answers-shown behind (rest-at-once (Told report) entries all) a
+      ∙ nothing-shown (answer_shown a) (Told report) entries refl
 
   -- what is not posted to an agent, and no message that it takes, changes nothing
   same-posted : (entries : List Entry) (h k : List Move) (entry : Entry) (a : ℕ)
@@ -248,6 +279,7 @@ module _ (may : Unseen) (board : Board) where
   )
   posted-more entries h (Promoted place) legal is a one = absurd is
   posted-more entries h (Reported effect) legal is a one = absurd is
+  posted-more entries h (Settled clock rate) legal is a one = absurd is
 
   -- a command that is executed posts nothing
   delivered-answered : (h : List Event) (b : ℕ) (f : Frame) (e : Event) (x : Answer)
@@ -320,6 +352,12 @@ module _ (may : Unseen) (board : Board) where
       same-posted entries h after (GivenUp k) a
       (ap (λ ms. delivered_messages board a (history ms)) fits) refl
       (messages-shown behind (legal-front may board entries h after (GivenUp k) fits legal) a)
+  messages-shown (Behind.shown {entries} {moves = h} behind (Told report) after fits) legal a =
+      let before = legal-front may board entries h after (Told report) fits legal in
+      same-posted entries h after (Told report) a
+      (ap (λ ms. delivered_messages board a (history ms)) fits
+      ∙ delivered_kept board a (history h) (told report) before (told-unsent report a)) refl
+      (messages-shown behind before a)
 
 -- no agent restarts in it if none may
 no-restart : (may : Unseen) (board : Board) (entries : List Entry) (h : List Event) (e : Event)
@@ -333,6 +371,12 @@ no-restart may board entries h (Restarted a) never is =
     absurd (let same : false ≡ true = sym never ∙ is in cc)
 no-restart may board entries h (Promoted place) never is = absurd is
 no-restart may board entries h (Reported effect) never is = absurd is
+no-restart may board entries h (Settled clock rate) never is = absurd is
+
+no-restart-told : (report : Report) → IsNoRestart (told report)
+no-restart-told (Changed effect) = tt
+no-restart-told (First place) = tt
+no-restart-told (reports.Settled clock rate) = tt
 
 no-restart-answered : (board : Board) (h : List Event) (b : ℕ) (f : Frame) (e : Event) (x : Answer)
     → IsAnswered board h b f e x → IsNoRestart e
@@ -367,3 +411,75 @@ no-restarts may board never
     subst (λ ms. All IsNoRestart (history ms)) (sym fits.0) (no-restarts may board never behind)
 no-restarts may board never (Behind.shown {entries} {moves = h} behind (GivenUp k) after fits) =
     subst (λ ms. All IsNoRestart (history ms)) (sym fits) (no-restarts may board never behind)
+no-restarts may board never (Behind.shown {entries} {moves = h} behind (Told report) after fits) =
+    subst (λ ms. All IsNoRestart (history ms)) (sym fits)
+    (All-push IsNoRestart (history h) (told report) (no-restarts may board never behind)
+    (no-restart-told report))
+
+-- the hardware told nothing by an unseen event, and nothing by a command
+told-more : (h : List Event) (e : Event) → filter_map told_event (h ++ e ∷ [])
+    ≡ filter_map told_event h ++ cons_option (told_event e) []
+told-more h e = filter_map-append told_event h (e ∷ [])
+
+none-more : (h : List Event) (e : Event) → told_event e ≡ None
+    → filter_map told_event (h ++ e ∷ []) ≡ filter_map told_event h
+none-more h e none =
+    told-more h e ∙ ap (λ o. filter_map told_event h ++ cons_option o []) none
+    ∙ append-nil (filter_map told_event h)
+
+untold : (may : Unseen) (board : Board) (entries : List Entry) (h : List Event) (e : Event)
+    → IsUnseenEvent may board entries h e → told_event e ≡ None
+untold may board entries h Advance is = refl
+untold may board entries h (AdvanceFailed fault) is = refl
+untold may board entries h (Sent a) is = refl
+untold may board entries h (Command a f) is = absurd is
+untold may board entries h (CommandFailed a f fault) is = absurd is
+untold may board entries h (Restarted a) is = refl
+untold may board entries h (Promoted place) is = absurd is
+untold may board entries h (Reported effect) is = absurd is
+untold may board entries h (Settled clock rate) is = absurd is
+
+untold-answered : (board : Board) (h : List Event) (b : ℕ) (f : Frame) (e : Event) (x : Answer)
+    → IsAnswered board h b f e x → told_event e ≡ None
+untold-answered board h b f e x (inl done) = ap told_event done.0
+untold-answered board h b f e x (inr failed) = ap told_event failed.1
+
+told-itself : (report : Report) → told_event (told report) ≡ Some report
+told-itself (Changed effect) = refl
+told-itself (First place) = refl
+told-itself (reports.Settled clock rate) = refl
+
+pub told-shown : (may : Unseen) (board : Board) {entries : List Entry} {h : List Move}
+    → Behind may board entries h
+    → filter_map told_event (history h) ≡ filter_map told_shown (reverse entries)
+told-shown may board Behind.nothing = refl
+told-shown may board (Behind.unseen {entries} {moves = h} behind (Move.happens e) is) =
+    none-more (history h) e (untold may board entries (history h) e is)
+    ∙ told-shown may board behind
+told-shown may board (Behind.unseen {entries} {moves = h} behind (Move.executes k e x) is) =
+    none-more (history h) e (untold-answered board (history h) is.0 is.1 e x is.3)
+    ∙ told-shown may board behind
+told-shown may board (Behind.unseen {entries} {moves = h} behind (Move.asks k b f) is) = absurd is
+told-shown may board (Behind.unseen {entries} {moves = h} behind (Move.frees k) is) = absurd is
+told-shown may board (Behind.shown {entries} {moves = h} behind (Answered b f x) after fits) =
+    ap (λ ms. filter_map told_event (history ms)) fits.1
+    ∙ none-more (history h) fits.0 (untold-answered board (history h) b f fits.0 x fits.2)
+    ∙ told-shown may board behind ∙ nothing-shown told_shown (Answered b f x) entries refl
+told-shown may board (Behind.shown {entries} {moves = h} behind (Delivered b m) after fits) =
+    ap (λ ms. filter_map told_event (history ms)) fits.1
+    ∙ told-shown may board behind ∙ nothing-shown told_shown (Delivered b m) entries refl
+told-shown may board (Behind.shown {entries} {moves = h} behind (Asked k b f) after fits) =
+    ap (λ ms. filter_map told_event (history ms)) fits.1
+    ∙ told-shown may board behind ∙ nothing-shown told_shown (Asked k b f) entries refl
+told-shown may board (Behind.shown {entries} {moves = h} behind (Replied k b f x) after fits) =
+    ap (λ ms. filter_map told_event (history ms)) fits.0
+    ∙ told-shown may board behind ∙ nothing-shown told_shown (Replied k b f x) entries refl
+told-shown may board (Behind.shown {entries} {moves = h} behind (GivenUp k) after fits) =
+    ap (λ ms. filter_map told_event (history ms)) fits
+    ∙ told-shown may board behind ∙ nothing-shown told_shown (GivenUp k) entries refl
+told-shown may board (Behind.shown {entries} {moves = h} behind (Told report) after fits) =
+    ap (λ ms. filter_map told_event (history ms)) fits
+    ∙ told-more (history h) (told report)
+    ∙ ap (λ o. filter_map told_event (history h) ++ cons_option o []) (told-itself report)
+    ∙ ap (λ rs. rs ++ report ∷ []) (told-shown may board behind)
+    ∙ sym (shown-more told_shown (Told report) entries)

@@ -8,12 +8,12 @@ use Rattle.scmi_codec.specs.declared.frame.Frame.{Frame}
 use Rattle.scmi_codec.specs.declared.frame.Answer.{Answer}
 use Rattle.scmi_codec.specs.declared.message.Message.{Message}
 use Rattle.scmi_core.specs.declared.event.Event.{Event}
-use Rattle.scmi_core.specs.declared.event.Event.TheVariants.{Command, Advance, Sent, CommandFailed, AdvanceFailed, Restarted, Promoted, Reported}
+use Rattle.scmi_core.specs.declared.event.Event.TheVariants.{Command, Advance, Sent, CommandFailed, AdvanceFailed, Restarted, Promoted, Reported, Settled}
 use Rattle.scmi_codec.specs.declared.fault.Fault.{Fault}
 use Rattle.scmi_codec.specs.declared.fault.Fault.TheVariants.{HardwareError}
 use Rattle.scmi_core.specs.declared.pending_set.PendingSet.{PendingSet}
 use Rattle.scmi_core.specs.History.{answer_to, deeds, delivered_messages}
-use Rattle.scmi_core.specs.Legal.{IsLegal}
+use Rattle.scmi_core.specs.Legal.{IsLegal, told}
 use Rattle.scmi_core.specs.Pending.{pending_sets}
 use Rattle.scmi_core.specs.Reply.{failed_answer}
 use Rattle.scmi_judge.specs.Moves.{Move, history, outstanding, outstanding_at}
@@ -64,6 +64,7 @@ IsUnseenEvent may board entries h (CommandFailed a frame fault) = ⊥
 IsUnseenEvent may board entries h (Restarted a) = may.restarts ≡ true
 IsUnseenEvent may board entries h (Promoted place) = ⊥
 IsUnseenEvent may board entries h (Reported effect) = ⊥
+IsUnseenEvent may board entries h (Settled clock rate) = ⊥
 
 -- after a history this event is a command of agent a with the answer that it gets there, or one
 -- whose change the hardware refused with some fault, with the answer to that
@@ -102,7 +103,8 @@ MayFail may _ = ⊤
 -- that an agent takes is the one that was posted to it and not yet seen.
 -- A command that is answered later is outstanding from here on, at a place that was free; its
 -- answer is the one that it got when it was executed, and the place is free again; and if no answer
--- of it comes, the place is free at some time
+-- of it comes, the place is free at some time.
+-- What the hardware told happens here
 abbrev pub Fits : Unseen → Board → List Entry → List Move → Entry → List Move → Type 0
 Fits may board entries moves (entry.Answered a frame answer) after =
     (event : Event) × (after ≡ Move.happens event ∷ moves)
@@ -117,6 +119,7 @@ Fits may board entries moves (entry.Replied k a frame answer) after =
     (after ≡ Move.frees k ∷ moves)
     × (outstanding_at k moves ≡ Some (outstanding a frame (Some answer)))
 Fits may board entries moves (entry.GivenUp k) after = after ≡ Move.frees k ∷ moves
+Fits may board entries moves (entry.Told report) after = after ≡ Move.happens (told report) ∷ moves
 
 -- moves are behind these entries, newest first: they show what they show of them, and unseen moves
 -- stand anywhere
@@ -142,6 +145,7 @@ IsRight may board entries = HasLegalHistory may board (reverse entries)
 abbrev pub IsAtOnce : Entry → Type 0
 IsAtOnce (entry.Answered a frame answer) = ⊤
 IsAtOnce (entry.Delivered a message) = ⊤
+IsAtOnce (entry.Told report) = ⊤
 IsAtOnce _ = ⊥
 
 -- a move is an event by itself

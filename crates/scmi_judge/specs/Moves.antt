@@ -4,6 +4,10 @@ use Rattle.std.specs.Prelude.{ℕ, ◌==◌, if◌then◌else◌, List, [], ◌�
 use Rattle.scmi_codec.specs.declared.frame.Frame.{Frame}
 use Rattle.scmi_codec.specs.declared.frame.Answer.{Answer}
 use Rattle.scmi_core.specs.declared.event.Event.{Event}
+use Rattle.scmi_core.specs.declared.event.Event.TheVariants.{Promoted, Reported, Settled}
+use Rattle.scmi_plan.specs.declared.report.Report.{Report}
+use Rattle.scmi_plan.specs.declared.report.Report.TheVariants as reports
+use Rattle.scmi_plan.specs.declared.report.Report.TheVariants.{Changed, First}
 use Rattle.scmi_judge.specs.declared.outstanding.Outstanding.{Outstanding}
 
 -- an event happens; or a command of an agent is asked, and is outstanding at a place; or the
@@ -21,6 +25,13 @@ history (Move.happens event ∷ moves) = history moves ++ event ∷ []
 history (Move.asks k a frame ∷ moves) = history moves
 history (Move.executes k event answer ∷ moves) = history moves ++ event ∷ []
 history (Move.frees k ∷ moves) = history moves
+
+-- what the hardware told, if an event is that
+abbrev pub told_event : Event → Option Report
+told_event (Reported effect) = Some (Changed effect)
+told_event (Promoted place) = Some (First place)
+told_event (Settled clock rate) = Some (reports.Settled clock rate)
+told_event _ = None
 
 -- a command of agent a that is outstanding, with the answer that it got if it was executed
 abbrev pub outstanding : ℕ → Frame → Option Answer → Outstanding

@@ -16,8 +16,9 @@ use Rattle.scmi_codec.specs.declared.power_command.PowerCommand.TheVariants as p
 use Rattle.scmi_codec.specs.declared.status.Status.{Status}
 use Rattle.scmi_codec.specs.Fault.{fault_of}
 use Rattle.scmi_codec.specs.declared.fault.Fault.{Fault}
+use Rattle.scmi_plan.specs.declared.report.Report.{Report}
 use Rattle.scmi_judge.specs.declared.entry.Entry.{Entry}
-use Rattle.scmi_judge.specs.declared.entry.Entry.TheVariants.{Answered, Asked, Delivered, GivenUp, Replied}
+use Rattle.scmi_judge.specs.declared.entry.Entry.TheVariants.{Answered, Asked, Delivered, GivenUp, Replied, Told}
 
 -- the platform gave what an entry shows: an answer or a message
 abbrev pub is_from_platform : Entry → Bool
@@ -26,6 +27,7 @@ is_from_platform (Delivered a message) = true
 is_from_platform (Asked place a frame) = false
 is_from_platform (Replied place a frame answer) = true
 is_from_platform (GivenUp place) = false
+is_from_platform (Told report) = false
 
 -- the frame of an entry, if it is a command of agent a with its answer
 abbrev pub frame_shown : ℕ → Entry → Option Frame
@@ -41,6 +43,11 @@ answer_shown a _ = None
 abbrev pub message_shown : ℕ → Entry → Option Message
 message_shown a (Delivered b message) = if a == b then Some message else None
 message_shown a _ = None
+
+-- what the hardware told, if an entry shows that
+abbrev pub told_shown : Entry → Option Report
+told_shown (Told report) = Some report
+told_shown _ = None
 
 -- whether an answer is a reply that begins with SUCCESS
 abbrev pub has_succeeded : Answer → Bool

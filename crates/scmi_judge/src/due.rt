@@ -45,6 +45,7 @@ impl Guesses {
         match entry {
             Entry::Delivered { agent, .. } if self.made.get().has_agent(*agent) =>
                 Verdict::NoMessage,
+            Entry::Told { .. } => Verdict::NoReport,
             _ => Verdict::NoAgent,
         }
     }
@@ -61,7 +62,7 @@ impl Guess {
             Entry::Answered { agent, frame, .. } => self.due_answer(*agent, frame),
             Entry::Delivered { agent, .. } => self.due_message(*agent),
             Entry::Replied { place, .. } => self.due_reply(*place),
-            Entry::Asked { .. } | Entry::GivenUp { .. } => None,
+            Entry::Asked { .. } | Entry::GivenUp { .. } | Entry::Told { .. } => None,
         }
     }
 

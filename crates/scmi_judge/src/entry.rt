@@ -3,6 +3,7 @@ ghost use Rattle.std.specs.Prelude.{◌≡◌};
 ghost use Rattle.scmi_judge.specs.Shown.{is_from_platform};
 
 use scmi_codec::{Answer, Frame, Message};
+use scmi_plan::Report;
 
 /// One entry of a record of what went over a platform's channels, at its place in time.
 #[derive(Clone, PartialEq, Eq, Debug, Drop)]
@@ -36,6 +37,10 @@ pub enum Entry {
     /// executed before, or it never is.
     GivenUp {
         place: u32,
+    },
+    /// The hardware told the platform this, here.
+    Told {
+        report: Report,
     },
 }
 
@@ -89,6 +94,7 @@ impl Entry {
                 answer: answer.copy(),
             },
             Entry::GivenUp { place } => Entry::GivenUp { place: *place },
+            Entry::Told { report } => Entry::Told { report: *report },
         }
     }
 }

@@ -143,7 +143,7 @@ impl Guess {
                 let _ = self.execute_at(*place);
                 self.give_up(*place);
             }
-            Entry::Asked { .. } | Entry::GivenUp { .. } => {}
+            Entry::Asked { .. } | Entry::GivenUp { .. } | Entry::Told { .. } => {}
         }
     }
 
@@ -195,7 +195,10 @@ impl Guess {
                 answer,
                 ..
             } => is_set(frame) || self.gives_answer(*agent, frame, answer),
-            Entry::Delivered { .. } | Entry::Asked { .. } | Entry::GivenUp { .. } => false,
+            Entry::Delivered { .. }
+            | Entry::Asked { .. }
+            | Entry::GivenUp { .. }
+            | Entry::Told { .. } => false,
         }
     }
 

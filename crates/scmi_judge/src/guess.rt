@@ -22,7 +22,7 @@ use crate::shown::fault_shown;
 use crate::unseen::{Refusals, Step, Unseen};
 use scmi_codec::{Answer, Fault, Frame, Message};
 use scmi_core::{Answered, Platform};
-use scmi_plan::{AGENTS, Plan};
+use scmi_plan::{AGENTS, Plan, Report};
 
 /// A platform that may be behind a record, with the message in the channel to each agent that was
 /// posted and that no entry shows yet, and the commands that are answered later.
@@ -213,6 +213,7 @@ impl Guess {
                 self.give_up(*place);
                 true
             }
+            Entry::Told { report } => self.take_over(*report),
         }
     }
 
@@ -296,6 +297,17 @@ impl Guess {
         }
         self.posted[agent as usize - 1] = None;
         true
+    }
+
+    /// The same of what the hardware told.
+    fn take_over(&mut self, report: Report) -> bool
+        ensures gives { result ≡ true → (may : Hidden)
+            → Gives may self.old (entry.Told report) self.new }
+        ensures not { result ≡ false → (may : Hidden)
+            → GivesNot may self.old (entry.Told report) }
+        ensures board { self.new.platform.board ≡ self.old.platform.board }
+    {
+        self.platform.tell(report)
     }
 
     /// Whether this message is in the channel to an agent of the board.
