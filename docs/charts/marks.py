@@ -31,6 +31,8 @@ def marks_of(step, words):
         return ["failed" if words[1:] == ["failed", "yes"] else "advance"]
     if step == "restart":
         return ["restart"]
+    if step == "report":
+        return ["remark"] if words[1] == "yes" else []
     if step in ("serve", "flush", "shut"):
         done = {"done": "execution", "posted": "posted", "ok": "closed"}
         return [done.get(words[2], "remark")]

@@ -11,6 +11,7 @@ use Rattle.scmi_core.specs.declared.event.Event.{Event}
 use Rattle.scmi_core.specs.declared.event.Event.TheVariants as event
 use Rattle.scmi_plan.specs.Agent.{IsAgent}
 use Rattle.scmi_plan.specs.Board.{Board}
+use Rattle.scmi_plan.specs.declared.report.Report.TheVariants as report
 use Rattle.scmi_link.specs.declared.script.Script.{Script}
 use Rattle.scmi_link.specs.Scripts.{orders_of}
 use Rattle.scmi_text.specs.Step.{IsStepOf}
@@ -90,8 +91,9 @@ module _ (board : Board) where
   event_of_board logs sent before (event.CommandFailed a f fault) may = refusal_of_board a fault f may.0
   event_of_board logs sent before (event.AdvanceFailed fault) may = one_of_board (step.AdvanceFailed fault) tt
   event_of_board logs sent before (event.Restarted a) may = one_of_board (step.Restart a) may
-  event_of_board logs sent before (event.Promoted place) may = none_of_board
-  event_of_board logs sent before (event.Reported effect) may = one_of_board (step.Report effect) tt
+  event_of_board logs sent before (event.Reported effect) may = one_of_board (step.Report (report.Changed effect)) tt
+  event_of_board logs sent before (event.Promoted place) may = one_of_board (step.Report (report.First place)) tt
+  event_of_board logs sent before (event.Settled clock rate) may = one_of_board (step.Report (report.Settled clock rate)) tt
 
   events_of_board : (h : List Event) → IsLegal board h → (logs : List AgentLog) (sent : List ℕ) (before after : List Event) → h ≡ before ++ after → All OfBoard (steps_after logs sent after)
   events_of_board h legal logs sent before [] parted = none_of_board

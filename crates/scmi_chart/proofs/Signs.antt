@@ -76,9 +76,9 @@ turned_by board b x later step.Advance (line.Collected a (collected.Got answer))
 turned_by board b x later (step.AdvanceFailed fault) (line.Collected a collected.Nothing) = refl
 turned_by board b x later (step.AdvanceFailed fault) (line.Collected a collected.Closed) = refl
 turned_by board b x later (step.AdvanceFailed fault) (line.Collected a (collected.Got answer)) = refl
-turned_by board b x later (step.Report effect) (line.Collected a collected.Nothing) = refl
-turned_by board b x later (step.Report effect) (line.Collected a collected.Closed) = refl
-turned_by board b x later (step.Report effect) (line.Collected a (collected.Got answer)) = refl
+turned_by board b x later (step.Report report) (line.Collected a collected.Nothing) = refl
+turned_by board b x later (step.Report report) (line.Collected a collected.Closed) = refl
+turned_by board b x later (step.Report report) (line.Collected a (collected.Got answer)) = refl
 turned_by board b x later (step.Restart c) (line.Collected a collected.Nothing) = refl
 turned_by board b x later (step.Restart c) (line.Collected a collected.Closed) = refl
 turned_by board b x later (step.Restart c) (line.Collected a (collected.Got answer)) = refl

@@ -7,6 +7,8 @@ use Rattle.scmi_codec.specs.declared.frame.Frame.TheVariants as frame
 use Rattle.scmi_codec.specs.declared.message.Message.{Message}
 use Rattle.scmi_core.specs.declared.event.Event.{Event}
 use Rattle.scmi_core.specs.declared.event.Event.TheVariants as event
+use Rattle.scmi_plan.specs.declared.report.Report.{Report}
+use Rattle.scmi_plan.specs.declared.report.Report.TheVariants as report
 use Rattle.scmi_text.specs.declared.step.Call.{Call}
 use Rattle.scmi_text.specs.declared.step.Step.{Step}
 use Rattle.scmi_text.specs.declared.step.Step.TheVariants as step
@@ -33,6 +35,10 @@ abbrev pub refusal_steps : ℕ → Fault → Frame → List Step
 refusal_steps a fault (frame.Good m) = step.Fail a fault (call_of m) ∷ []
 refusal_steps a fault (frame.Malformed len header) = malformed_steps a len header
 
+-- the step in which the hardware reports this
+abbrev pub report_steps : Report → List Step
+report_steps report = step.Report report ∷ []
+
 -- how many messages an agent took, by its log
 abbrev pub taken_by : List AgentLog → ℕ → ℕ
 taken_by logs a = elim (slice_get logs (a - 1)) [ None ↦ 0 | Some log ↦ length log.p2a.items ]
@@ -41,7 +47,7 @@ taken_by logs a = elim (slice_get logs (a - 1)) [ None ↦ 0 | Some log ↦ leng
 abbrev pub taking_steps : List AgentLog → List ℕ → ℕ → List Step
 taking_steps logs sent a = if nat_lt (count_by (nat_eq a) sent) (taken_by logs a) then step.Agent a agent_step.P2a ∷ [] else []
 
--- the steps of an event, after messages were posted to these agents: a command is posted, served and collected; an advance is one; a message that is posted is a flush, and the agent takes it if its log has it; the restart of an agent is one; a report of the hardware is one; a promotion has none, since no step makes one
+-- the steps of an event, after messages were posted to these agents: a command is posted, served and collected; an advance is one; a message that is posted is a flush, and the agent takes it if its log has it; the restart of an agent is one; a report of the hardware is one
 abbrev pub steps_of_event : List AgentLog → List ℕ → Event → List Step
 steps_of_event logs sent (event.Command a frame) = command_steps a frame
 steps_of_event logs sent (event.CommandFailed a frame fault) = refusal_steps a fault frame
@@ -49,8 +55,9 @@ steps_of_event logs sent event.Advance = step.Advance ∷ []
 steps_of_event logs sent (event.AdvanceFailed fault) = step.AdvanceFailed fault ∷ []
 steps_of_event logs sent (event.Sent a) = step.Platform a platform_step.Flush ∷ taking_steps logs sent a
 steps_of_event logs sent (event.Restarted a) = step.Restart a ∷ []
-steps_of_event logs sent (event.Promoted place) = []
-steps_of_event logs sent (event.Reported effect) = step.Report effect ∷ []
+steps_of_event logs sent (event.Reported effect) = report_steps (report.Changed effect)
+steps_of_event logs sent (event.Promoted place) = report_steps (report.First place)
+steps_of_event logs sent (event.Settled clock rate) = report_steps (report.Settled clock rate)
 
 -- the agent to which an event posted a message, if it did
 abbrev pub receivers : Event → List ℕ

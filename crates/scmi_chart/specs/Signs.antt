@@ -32,7 +32,7 @@ use Rattle.scmi_chart.specs.declared.mark.Side.TheVariants as side
 use Rattle.scmi_chart.specs.declared.mark.Message.{Message as Arrow}
 use Rattle.scmi_chart.specs.Detail.{answer_detail, message_detail, step_detail}
 
--- what a mark shows, with the header and the words of its message in hexadecimal: whether a command that an agent posted was executed, with its token if it has one; a post was refused; the platform executed a command; the outcome of the answer to its command that an agent read; an agent took a delayed response or a notification; the platform posted a message; it was to complete a pending set, and whether there was one; it ended one whose change the hardware refused; an agent's command was answered with the status with which the hardware beside it refuses; channels were closed; an agent restarted; a step of an agent's came to nothing; or, of number 0, the hardware reported a change, which the platform took over
+-- what a mark shows, with the header and the words of its message in hexadecimal: whether a command that an agent posted was executed, with its token if it has one; a post was refused; the platform executed a command; the outcome of the answer to its command that an agent read; an agent took a delayed response or a notification; the platform posted a message; it was to complete a pending set, and whether there was one; it ended one whose change the hardware refused; an agent's command was answered with the status with which the hardware beside it refuses; channels were closed; an agent restarted; a step of an agent's came to nothing; or, of number 0, the hardware reported something, which the platform took over
 pub data Sign : Type 0 where
   sent : Bool → ℕ → Option ℕ → List ℕ → Sign
   unsent : ℕ → List ℕ → Sign
@@ -130,7 +130,7 @@ abbrev pub failed_signs : Bool → List Sign
 failed_signs true = failed ∷ []
 failed_signs false = advanced false ∷ []
 
--- what is shown of a change that the hardware reported, by whether the platform took it over
+-- what is shown of a report of the hardware, by whether the platform took it over
 abbrev pub reported_signs : Bool → List Sign
 reported_signs true = remarked 0 ∷ []
 reported_signs false = []

@@ -109,3 +109,16 @@ pub(crate) const FAILED: &str = "% failed";
 
 /// A mark of a notification that was dropped, for a reader who points at it.
 pub(crate) const DROPPED: &str = "the notification of % for % was dropped: its outbox has no room";
+
+/// What the hardware reported: a domain or clock and its value now, which pending set ends first, or
+/// a clock and the rate that its pending set gives it.
+pub(crate) const CHANGED: &str = "reported: % is %";
+
+pub(crate) const ENDS_FIRST: &str = "reported: % ends first";
+
+pub(crate) const SETTLES: &str = "reported: % settles at %";
+
+/// A pending set, by the name of what it sets or by its place.
+pub(crate) const SET_OF: &str = "the set of %";
+
+pub(crate) const SET: &str = "set %";

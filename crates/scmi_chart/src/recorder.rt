@@ -75,7 +75,7 @@ impl<'a> Recorder<'a> {
         let slot = self.slots;
         self.begin(script, step, came)?;
         self.levels.look(core, slot.saturating_add(1))?;
-        self.mark(slot, step, came)
+        self.mark(slot, step, came, core)
     }
 
     /// Records that the notification of a domain's state for an agent was dropped in the step that was
@@ -111,8 +111,14 @@ impl<'a> Recorder<'a> {
         Ok(())
     }
 
-    /// Marks what came of a step.
-    fn mark(&mut self, slot: u16, step: &Step, came: &StepLine) -> Result<(), AllocError>
+    /// Marks what came of a step, after which the platform is in this state.
+    fn mark(
+        &mut self,
+        slot: u16,
+        step: &Step,
+        came: &StepLine,
+        core: &Core,
+    ) -> Result<(), AllocError>
         ensures { OnOk result (self.new ≡ shown_after step.now came.now self.old) }
     {
         match came {
@@ -143,7 +149,7 @@ impl<'a> Recorder<'a> {
             },
             StepLine::Advanced { more } => self.record_advance(slot, *more),
             StepLine::AdvanceFailed { more } => self.record_failure(slot, *more),
-            StepLine::Reported { taken } => self.record_report(slot, step, *taken),
+            StepLine::Reported { taken } => self.record_report(slot, step, *taken, core),
             StepLine::Flushed { agent, flushed } => self.record_flush(lane(*agent), slot, *flushed),
             StepLine::P2a { agent, frame } => self.record_take(lane(*agent), slot, frame),
             StepLine::Closed { agent, closing } => self.record_close(lane(*agent), slot, closing),

@@ -1,31 +1,35 @@
-//! Changes that the hardware reports.
+//! What the hardware reports.
 ghost use Rattle.std.specs.Prelude.{◌≡◌, OnOk};
 ghost use Rattle.scmi_chart.specs.Signs.{reported_signs};
 ghost use Rattle.scmi_chart.specs.Shown.{adds};
 
 use crate::board_names::{clock_name, domain_name};
+use crate::label_texts::{CHANGED, ENDS_FIRST, SET, SET_OF, SETTLES};
 use crate::mark::{Mark, Side};
 use crate::recorder::Recorder;
-use crate::words::{rate_words, state_words, switch_word};
-use scmi_plan::{Effect, RawPlan};
+use crate::value::{Value, filled_words};
+use crate::words::{numbered_words, rate_words, state_words, switch_word};
+use scmi_core::Core;
+use scmi_plan::{Effect, RawPlan, Report};
 use scmi_text::Step;
 use std::alloc::{AllocError, Global};
 
 impl<'a> Recorder<'a> {
-    /// The hardware reported a change, and the platform took it over or did not: if it did, words
-    /// beside its lifeline report that.
+    /// The hardware reported something, and the platform, which is in this state now, took it over
+    /// or did not: if it did, words beside its lifeline report that.
     pub(crate) fn record_report(
         &mut self,
         slot: u16,
         step: &Step,
         taken: bool,
+        core: &Core,
     ) -> Result<(), AllocError>
         ensures { OnOk result (self.new ≡ adds (reported_signs taken) self.old) }
     {
         if !taken {
             return Ok(());
         }
-        let text = report_words(self.alloc, self.board, step)?;
+        let text = step_words(self.alloc, self.board, step, core)?;
         self.marks.add(Mark::Remark {
             agent: 0,
             slot,
@@ -35,36 +39,77 @@ impl<'a> Recorder<'a> {
     }
 }
 
-/// What a step reports, in words.
-fn report_words(alloc: Global, board: &RawPlan, step: &Step) -> Result<Vec<u8>, AllocError> {
+/// What the hardware reports in a step, in words.
+fn step_words(
+    alloc: Global,
+    board: &RawPlan,
+    step: &Step,
+    core: &Core,
+) -> Result<Vec<u8>, AllocError> {
     match step {
-        Step::Report { effect } => effect_words(alloc, board, *effect),
+        Step::Report { report } => report_words(alloc, board, *report, core),
         _ => Ok(Vec::new(alloc)),
     }
 }
 
-fn effect_words(alloc: Global, board: &RawPlan, effect: Effect) -> Result<Vec<u8>, AllocError> {
-    match effect {
-        Effect::State { domain, state } => {
-            let name = domain_name(alloc, board, domain)?;
-            is_words(alloc, &name, &state_words(alloc, state)?)
+fn report_words(
+    alloc: Global,
+    board: &RawPlan,
+    report: Report,
+    core: &Core,
+) -> Result<Vec<u8>, AllocError> {
+    match report {
+        Report::Changed(effect) => {
+            let name = changed_name(alloc, board, effect)?;
+            let value = value_words(alloc, effect)?;
+            filled_words(alloc, CHANGED, &[Value::Words(&name), Value::Words(&value)])
         }
-        Effect::Rate { clock, rate } => {
-            let name = clock_name(alloc, board, clock)?;
-            is_words(alloc, &name, &rate_words(alloc, rate)?)
+        Report::First(place) => {
+            let set = first_set(alloc, board, place, core)?;
+            filled_words(alloc, ENDS_FIRST, &[Value::Words(&set)])
         }
-        Effect::Enabled { clock, enabled } => {
+        Report::Settled { clock, rate } => {
             let name = clock_name(alloc, board, clock)?;
-            is_words(alloc, &name, switch_word(u32::from(enabled)).as_bytes())
+            let rate = rate_words(alloc, rate)?;
+            filled_words(alloc, SETTLES, &[Value::Words(&name), Value::Words(&rate)])
         }
     }
 }
 
-/// What has this name, and its value now.
-fn is_words(alloc: Global, name: &[u8], value: &[u8]) -> Result<Vec<u8>, AllocError> {
-    let mut words = Vec::from_slice(alloc, b"reported: ")?;
-    words.extend_from_slice(name)?;
-    words.extend_from_slice(b" is ")?;
-    words.extend_from_slice(value)?;
-    Ok(words)
+/// The name of what an effect changes.
+fn changed_name(alloc: Global, board: &RawPlan, effect: Effect) -> Result<Vec<u8>, AllocError> {
+    match effect {
+        Effect::State { domain, .. } => domain_name(alloc, board, domain),
+        Effect::Rate { clock, .. } | Effect::Enabled { clock, .. } => {
+            clock_name(alloc, board, clock)
+        }
+    }
+}
+
+/// The value that an effect gives.
+fn value_words(alloc: Global, effect: Effect) -> Result<Vec<u8>, AllocError> {
+    match effect {
+        Effect::State { state, .. } => state_words(alloc, state),
+        Effect::Rate { rate, .. } => rate_words(alloc, rate),
+        Effect::Enabled { enabled, .. } => {
+            Vec::from_slice(alloc, switch_word(u32::from(enabled)).as_bytes())
+        }
+    }
+}
+
+/// The pending set that was at this place and is the first now, by what it sets; by its place if
+/// the platform has none.
+fn first_set(
+    alloc: Global,
+    board: &RawPlan,
+    place: u32,
+    core: &Core,
+) -> Result<Vec<u8>, AllocError> {
+    match core.pending_sets() {
+        [set, ..] => {
+            let name = changed_name(alloc, board, set.effect())?;
+            filled_words(alloc, SET_OF, &[Value::Words(&name)])
+        }
+        [] => numbered_words(alloc, SET, place),
+    }
 }
