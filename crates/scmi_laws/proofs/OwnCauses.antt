@@ -1,25 +1,21 @@
 -- Each change of a legal history came of a command or a report of its own.
-use Rattle.std.proofs.Common.{◌≡◌, inl, inr, ℕ, ◌<◌, ◌≤◌, Bool, true, false, List, [], ◌∷◌, ◌++◌, length, map, drop, slice_get, Option, Some, None, option_map, unwrap_or, refl, sym, ap, ◌∙◌, subst, arith, if◌then◌else◌}
+use Rattle.std.proofs.Common.{◌≡◌, inl, inr, ℕ, ◌<◌, ◌≤◌, true, List, [], ◌∷◌, ◌++◌, length, map, drop, slice_get, Option, Some, None, option_map, unwrap_or, refl, sym, ap, ◌∙◌, subst, arith}
 use Rattle.std.specs.List.{AllZip}
 use Rattle.std.specs.Option.{option_and_then, option_or, option_to_list}
 use Rattle.std.proofs.lemmas.List.{append_assoc, append-nil, length-append}
 use Rattle.scmi_codec.specs.declared.frame.Frame.TheVariants.{Good, Malformed}
 use Rattle.scmi_codec.specs.declared.message.Message.{Message}
-use Rattle.scmi_codec.specs.declared.command.Command as codec
 use Rattle.scmi_plan.specs.Agent.{IsAgent}
 use Rattle.scmi_plan.specs.Board.{Board, is_free}
 use Rattle.scmi_plan.specs.declared.effect.Effect.{Effect}
 use Rattle.scmi_core.specs.declared.event.Event.{Event}
 use Rattle.scmi_core.specs.declared.event.Event.TheVariants.{Command, Advance, Sent, CommandFailed, AdvanceFailed, Restarted, Promoted, Settled, Reported}
 use Rattle.scmi_core.specs.declared.pending_set.PendingSet.{PendingSet}
-use Rattle.scmi_core.specs.Deed.{Deed, Success, fold_with_prefix, success_at, success_of}
+use Rattle.scmi_core.specs.Deed.{Deed, Success, fold_with_prefix, success_at}
 use Rattle.scmi_core.specs.History.{deed_after, deeds}
-use Rattle.scmi_core.specs.Laws.{change_asked, may_after}
+use Rattle.scmi_core.specs.Laws.{change_asked}
 use Rattle.scmi_core.specs.Legal.{CanFollow, IsLegal}
-use Rattle.scmi_core.specs.Outbox.{situation_after}
 use Rattle.scmi_core.specs.Pending.{acceptance, pending_sets, promoted, settled, unwanted}
-use Rattle.scmi_core.specs.ReadCommand.{command_on}
-use Rattle.scmi_core.specs.Reply.{fits_channel, reply_words}
 use Rattle.scmi_core.specs.Value.{Change, change_now, change_reported, changes, completion}
 use Rattle.scmi_core.proofs.Causes.{IsCausedAfter, cause-kept, cause-settled, caused, later, later-asked, now-asked}
 use Rattle.scmi_core.proofs.Following.{change_in, pending_next}
