@@ -1,4 +1,3 @@
-mod FewItems
 mod ItemLists
 mod MeantExamples
 mod NameLists

@@ -7,8 +7,9 @@ use Rattle.scmi_board.specs.BoardLines.{Described, described_left}
 use Rattle.scmi_board.specs.Lines.{Line, LinesView}
 use Rattle.scmi_io.specs.Lines.{is_line_feed}
 use Rattle.scmi_plan.specs.Board.{Board}
+use Rattle.scmi_text.specs.StepText.{hardware_step_of_line}
 use Rattle.scmi_text.specs.declared.step.Step.{Step}
-use Rattle.scmi_live.specs.Meant.{hardware_step, step_by_names}
+use Rattle.scmi_live.specs.Meant.{step_by_names}
 use Rattle.scmi_live.specs.Pieces.{with_byte}
 use Rattle.scmi_live.proofs.Joined.{first_join, join_more, length_more}
 use Rattle.scmi_live.specs.Numbered.{AddsNumbered, AllStay, AreInNumbers, HasNoNames, HasNoNamesBy, IsInNumbers, IsInNumbersBy, IsInNumbersOf, IsLineBy, IsLineInNumbers, StaysBy}
@@ -74,7 +75,7 @@ lines_stay board agents [] [] stay each = refl
 lines_stay board agents [] (line ∷ lines) stay each = absurd each
 lines_stay board agents (text ∷ texts) [] stay each = absurd each
 lines_stay board agents (text ∷ texts) (line ∷ lines) stay each =
-    let one : line ≡ text = line_stays agents (hardware_step agents text) (step_by_names board agents text) text line stay.0 each.0 in
+    let one : line ≡ text = line_stays agents (hardware_step_of_line agents text) (step_by_names board agents text) text line stay.0 each.0 in
     ap (λ (l : List ℕ). l ∷ lines) one ∙ ap (λ (ls : List (List ℕ)). text ∷ ls) (lines_stay board agents texts lines stay.1 each.1)
 
 stays_by : (found : Result (Described × List Line) ℕ) (text made : List ℕ) → IsInNumbersBy found text made → HasNoNamesBy found text → made ≡ text

@@ -4,7 +4,6 @@ pub mod Messages
 pub mod Rates
 pub mod Flags
 pub mod Payload
-pub mod Forms
 pub mod Reports
 pub mod NamedStep
 pub mod Meant

@@ -1,35 +1,16 @@
 -- What a line of a session means.
-use Rattle.std.specs.Prelude.{ℕ, ◌||◌, not, Bool, true, false, if◌then◌else◌, List, [], ◌∷◌, length, take, Option, Some, None, Result, Ok, Err}
+use Rattle.std.specs.Prelude.{ℕ, ◌||◌, not, Bool, true, false, if◌then◌else◌, List, length, take, Option, Some, None}
 use Rattle.std.specs.Str.{bytes_eq}
 use Rattle.scmi_board.specs.Items.{◌>>=◌, items_of}
-use Rattle.scmi_board.specs.Lines.{is_significant, lines_left}
+use Rattle.scmi_board.specs.Lines.{is_significant}
 use Rattle.scmi_plan.specs.Board.{Board}
 use Rattle.scmi_text.specs.Step.{IsStepOf}
-use Rattle.scmi_text.specs.StepText.{hardware_steps_of_lines, steps_of_lines}
+use Rattle.scmi_text.specs.StepText.{hardware_step_of_line, plain_step_of_line}
 use Rattle.scmi_text.specs.declared.step.Step.{Step}
 use Rattle.scmi_live.specs.NamedStep.{named_step}
 use Rattle.scmi_live.specs.declared.meant.Meant.{Meant}
 use Rattle.scmi_live.specs.declared.meant.Meant.TheVariants.{Nothing, Describe, Help, Quit, Does, Unknown}
 use Rattle.scmi_live.specs.declared.meant.TheConstants.{HELP, HELP_ON, QUIT, WORDS_ON, WORDS_OFF}
-
--- the one step of a list that has one
-abbrev pub only_step : List Step → Option Step
-only_step [] = None
-only_step (step ∷ []) = Some step
-only_step (step ∷ next ∷ more) = None
-
--- the one step of a text that encodes one
-abbrev pub one_step : Result (List Step) ℕ → Option Step
-one_step (Ok steps) = only_step steps
-one_step (Err line) = None
-
--- the step of a line as a script of the modes `steps` has it
-abbrev pub plain_step : ℕ → List ℕ → Option Step
-plain_step agents text = one_step (steps_of_lines agents (lines_left (record { rest = text; number = 1 })))
-
--- the step of a line as a script of the modes `hardware` has it
-abbrev pub hardware_step : ℕ → List ℕ → Option Step
-hardware_step agents text = one_step (hardware_steps_of_lines agents (lines_left (record { rest = text; number = 1 })))
 
 -- the step of a line whose items may be names
 abbrev pub step_by_names : Board → ℕ → List ℕ → Option Step
@@ -42,7 +23,7 @@ or_step None other = other
 
 -- the step of a line as a script has it
 abbrev pub step_by_numbers : ℕ → List ℕ → Option Step
-step_by_numbers agents text = or_step (plain_step agents text) (hardware_step agents text)
+step_by_numbers agents text = or_step (plain_step_of_line agents text) (hardware_step_of_line agents text)
 
 -- the step that a line encodes, on a board with this number of agents: a line of numbers is the step that a script has in it, whatever names the board has
 abbrev pub step_meant : Board → ℕ → List ℕ → Option Step

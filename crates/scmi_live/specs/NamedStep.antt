@@ -1,26 +1,29 @@
 -- The steps that lines with names encode.
 use Rattle.std.specs.Prelude.{ℕ, ◌&&◌, nat_le, if◌then◌else◌, List, [], ◌∷◌, Option, Some, None}
 use Rattle.std.specs.Option.{option_map}
-use Rattle.std.specs.Str.{bytes_eq}
 use Rattle.scmi_board.specs.Items.{◌>>=◌}
 use Rattle.scmi_board.specs.Number.{number_of}
 use Rattle.scmi_codec.specs.declared.fault.Fault.TheVariants.{HardwareError}
 use Rattle.scmi_plan.specs.Board.{Board}
 use Rattle.scmi_codec.specs.Fault.{fault_in, named_statuses}
 use Rattle.scmi_text.specs.StepHead.{call_with, raw_with}
+use Rattle.scmi_text.specs.StepText.{step_forms}
+use Rattle.scmi_text.specs.WordRow.{form_in}
 use Rattle.scmi_text.specs.declared.step.Call.{Call}
 use Rattle.scmi_text.specs.declared.step.AgentStep.{AgentStep}
 use Rattle.scmi_text.specs.declared.step.AgentStep.TheVariants as agent
 use Rattle.scmi_text.specs.declared.step.Step.{Step}
 use Rattle.scmi_text.specs.declared.step.Step.TheVariants as step
-use Rattle.scmi_live.specs.Forms.{form_in, forms}
+use Rattle.scmi_text.specs.declared.step_form.AgentForm.{AgentForm}
+use Rattle.scmi_text.specs.declared.step_form.AgentForm.TheVariants as form
+use Rattle.scmi_text.specs.declared.step_form.CommandForm.{CommandForm}
+use Rattle.scmi_text.specs.declared.step_form.CommandForm.TheVariants as command
+use Rattle.scmi_text.specs.declared.step_form.StepForm.{StepForm}
+use Rattle.scmi_text.specs.declared.step_form.StepForm.TheVariants as first
 use Rattle.scmi_live.specs.Messages.{id_of, message_named, protocol_of}
 use Rattle.scmi_live.specs.Names.{number_from, or_named}
 use Rattle.scmi_live.specs.Payload.{numbers, payload_meant}
-use Rattle.scmi_live.specs.Reports.{effect_of}
-use Rattle.scmi_live.specs.declared.form.Form.{Form}
-use Rattle.scmi_live.specs.declared.form.Form.TheVariants as form
-use Rattle.scmi_live.specs.declared.reports.TheConstants.{REPORT}
+use Rattle.scmi_live.specs.Reports.{report_meant}
 
 -- the agent that an item encodes, on a board with this number of agents
 abbrev pub agent_of : Board → ℕ → List ℕ → Option ℕ
@@ -70,12 +73,16 @@ abbrev pub alone : {A : Type 0} → A → List (List ℕ) → Option A
 alone value [] = Some value
 alone value (item ∷ items) = None
 
+-- what an agent does with a command
+abbrev pub command_behind : Board → CommandForm → ℕ → List (List ℕ) → Option Step
+command_behind board command.Do a items = option_map (λ call. step.Do a call) (call_of board items)
+command_behind board command.Call a items = option_map (λ call. step.Agent a (agent.Call call)) (call_of board items)
+command_behind board command.Fail a items = option_map (λ call. step.Fail a HardwareError call) (call_of board items)
+command_behind board command.Refuse a items = refused_of board a items
+
 -- what an agent does, by its form and the items after the agent
-abbrev pub step_behind : Board → Form → ℕ → List (List ℕ) → Option Step
-step_behind board form.Do a items = option_map (λ call. step.Do a call) (call_of board items)
-step_behind board form.Call a items = option_map (λ call. step.Agent a (agent.Call call)) (call_of board items)
-step_behind board form.Fail a items = option_map (λ call. step.Fail a HardwareError call) (call_of board items)
-step_behind board form.Refuse a items = refused_of board a items
+abbrev pub step_behind : Board → AgentForm → ℕ → List (List ℕ) → Option Step
+step_behind board (form.Command command) a items = command_behind board command a items
 step_behind board form.Raw a items = option_map (λ made. step.Agent a made) (raw_of items)
 step_behind board form.Malformed a items = option_map (λ made. step.Agent a made) (malformed_of items)
 step_behind board form.Collect a items = alone (step.Agent a agent.Collect) items
@@ -84,21 +91,18 @@ step_behind board form.Close a items = alone (step.Agent a agent.Close) items
 step_behind board (form.Platform call) a items = alone (step.Platform a call) items
 step_behind board form.Restart a items = alone (step.Restart a) items
 
--- the step of a form's word, an agent, and the items after it, on a board with this number of agents
-abbrev pub step_of_agent : Board → ℕ → List ℕ → List ℕ → List (List ℕ) → Option Step
-step_of_agent board agents word who items =
-    form_in word forms >>= λ form. agent_of board agents who >>= λ a. step_behind board form a items
+-- the step of a form, an agent, and the items after it, on a board with this number of agents
+abbrev pub step_of_agent : Board → ℕ → AgentForm → List (List ℕ) → Option Step
+step_of_agent board agents form [] = None
+step_of_agent board agents form (who ∷ items) = agent_of board agents who >>= λ a. step_behind board form a items
 
--- the report of what has changed
-abbrev pub report_of : Board → List ℕ → List (List ℕ) → Option Step
-report_of board kind items = option_map (λ effect. step.Report effect) (effect_of board kind items)
+-- the step of a form, and of the items after its word; a line `advance` has no name in it
+abbrev pub step_of_form : Board → ℕ → StepForm → List (List ℕ) → Option Step
+step_of_form board agents first.Advance items = None
+step_of_form board agents first.Report items = option_map (λ report. step.Report report) (report_meant board items)
+step_of_form board agents (first.Of form) items = step_of_agent board agents form items
 
--- the step of two words and the items after them: a report if the first is that word, and else one of an agent, which is the second
-abbrev pub step_of_words : Board → ℕ → List ℕ → List ℕ → List (List ℕ) → Option Step
-step_of_words board agents word second items = if bytes_eq word REPORT.now then report_of board second items else step_of_agent board agents word second items
-
--- the step of items, of which there are two at least, on a board with this number of agents
+-- the step of items, of which the first is the word of a form, on a board with this number of agents
 abbrev pub named_step : Board → ℕ → List (List ℕ) → Option Step
 named_step board agents [] = None
-named_step board agents (word ∷ []) = None
-named_step board agents (word ∷ second ∷ items) = step_of_words board agents word second items
+named_step board agents (word ∷ items) = form_in word step_forms >>= λ form. step_of_form board agents form items

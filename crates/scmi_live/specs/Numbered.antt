@@ -5,18 +5,19 @@ use Rattle.scmi_board.specs.BoardLines.{Described, described_left}
 use Rattle.scmi_board.specs.Lines.{Line}
 use Rattle.scmi_io.specs.Lines.{is_line_feed}
 use Rattle.scmi_plan.specs.Board.{Board}
+use Rattle.scmi_text.specs.StepText.{hardware_step_of_line}
 use Rattle.scmi_text.specs.declared.step.Step.{Step}
-use Rattle.scmi_live.specs.Meant.{hardware_step, step_by_names}
+use Rattle.scmi_live.specs.Meant.{step_by_names}
 
 -- a line that is a step by its numbers stays, and so does one that is none by its names; another becomes a line whose numbers are the step of its names
 abbrev pub IsLineBy : (numbers names : Option Step) → ℕ → (text line : List ℕ) → Type 0
 IsLineBy (Some step) names agents text line = line ≡ text
 IsLineBy None None agents text line = line ≡ text
-IsLineBy None (Some step) agents text line = hardware_step agents line ≡ Some step
+IsLineBy None (Some step) agents text line = hardware_step_of_line agents line ≡ Some step
 
 -- a line of a script, and what it becomes
 abbrev pub IsLineInNumbers : Board → ℕ → (text line : List ℕ) → Type 0
-IsLineInNumbers board agents text line = IsLineBy (hardware_step agents text) (step_by_names board agents text) agents text line
+IsLineInNumbers board agents text line = IsLineBy (hardware_step_of_line agents text) (step_by_names board agents text) agents text line
 
 -- lines, and what each becomes
 abbrev pub AreInNumbers : Board → ℕ → (texts lines : List (List ℕ)) → Type 0
@@ -54,7 +55,7 @@ StaysBy None (Some step) = ⊥
 -- so is each of these lines
 abbrev pub AllStay : Board → ℕ → List (List ℕ) → Type 0
 AllStay board agents [] = Unit {0}
-AllStay board agents (text ∷ texts) = StaysBy (hardware_step agents text) (step_by_names board agents text) × AllStay board agents texts
+AllStay board agents (text ∷ texts) = StaysBy (hardware_step_of_line agents text) (step_by_names board agents text) × AllStay board agents texts
 
 -- a script that begins with this board has no line with names
 abbrev pub HasNoNamesBy : Result (Described × List Line) ℕ → List ℕ → Type 0

@@ -8,7 +8,6 @@
 #![tactic(auto)]
 
 mod flags;
-mod form;
 mod hertz;
 mod items;
 mod left_items;

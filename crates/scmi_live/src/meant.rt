@@ -2,14 +2,15 @@
 ghost use Rattle.std.specs.Prelude.{◌≡◌, Some, IfOk, IfSome};
 ghost use Rattle.scmi_plan.specs.RawPlan.{asked_board};
 ghost use Rattle.scmi_text.specs.Step.{IsStepOf};
+ghost use Rattle.scmi_text.specs.StepText.{plain_step_of_line};
 ghost use Rattle.scmi_text.specs.declared.step.Step.{Step as StepOf};
-ghost use Rattle.scmi_live.specs.Meant.{IsMeantOf, described_by, hardware_step, is_help, line_meant, only_step, plain_step, step_by_names, step_by_numbers, step_meant};
+ghost use Rattle.scmi_live.specs.Meant.{IsMeantOf, described_by, is_help, line_meant, step_by_names, step_by_numbers, step_meant};
 
 use crate::items::items_of;
 use crate::named_step::named_step;
-use scmi_board::{LineError, Lines, TextError, is_significant};
+use scmi_board::{LineError, is_significant};
 use scmi_plan::RawPlan;
-use scmi_text::{Step, StepList, read_hardware_steps, read_steps};
+use scmi_text::{Step, read_one_hardware_step, read_one_step};
 use std::alloc::{AllocError, Global};
 
 /// From here on replies are described, or are not.
@@ -102,66 +103,24 @@ pub fn step_meant(
 ) -> Result<Option<Step>, AllocError>
     ensures agent { IfOk result (λ step. IfSome step (IsStepOf agents)) }
     ensures plain { IfOk result (λ step. (plain : StepOf) →
-        plain_step agents text.now ≡ Some plain → step ≡ Some plain) }
+        plain_step_of_line agents text.now ≡ Some plain → step ≡ Some plain) }
     ensures step { IfOk result (λ step. step ≡ step_meant (asked_board board.now) agents text.now) }
 {
-    match step_by_numbers(alloc, agents, text)? {
+    match step_by_numbers(agents, text) {
         Some(step) => Ok(Some(step)),
         None => step_by_names(alloc, board, agents, text),
     }
 }
 
 /// The step of a line as a script has it.
-fn step_by_numbers(alloc: Global, agents: u32, text: &[u8]) -> Result<Option<Step>, AllocError>
-    ensures agent { IfOk result (λ step. IfSome step (IsStepOf agents)) }
-    ensures step { IfOk result (λ step. step ≡ step_by_numbers agents text.now) }
+fn step_by_numbers(agents: u32, text: &[u8]) -> Option<Step>
+    ensures agent { IfSome result (IsStepOf agents) }
+    ensures step { result ≡ step_by_numbers agents text.now }
 {
-    match plain_step(alloc, agents, text)? {
-        Some(step) => Ok(Some(step)),
-        None => hardware_step(alloc, agents, text),
+    match read_one_step(text, agents) {
+        Ok(step) => Some(step),
+        Err(_) => read_one_hardware_step(text, agents).ok(),
     }
-}
-
-/// The step of a line as a script of the modes `steps` has it.
-fn plain_step(alloc: Global, agents: u32, text: &[u8]) -> Result<Option<Step>, AllocError>
-    ensures agent { IfOk result (λ step. IfSome step (IsStepOf agents)) }
-    ensures step { IfOk result (λ step. step ≡ plain_step agents text.now) }
-{
-    let mut lines = Lines::new(text);
-    match read_steps(alloc, &mut lines, agents) {
-        Ok(steps) => Ok(only_step(&steps)),
-        Err(TextError::Memory) => Err(AllocError),
-        Err(_) => Ok(None),
-    }
-}
-
-/// The step of a line as a script of the modes `hardware` has it.
-pub(crate) fn hardware_step(
-    alloc: Global,
-    agents: u32,
-    text: &[u8],
-) -> Result<Option<Step>, AllocError>
-    ensures agent { IfOk result (λ step. IfSome step (IsStepOf agents)) }
-    ensures step { IfOk result (λ step. step ≡ hardware_step agents text.now) }
-{
-    let mut lines = Lines::new(text);
-    match read_hardware_steps(alloc, &mut lines, agents) {
-        Ok(steps) => Ok(only_step(&steps)),
-        Err(TextError::Memory) => Err(AllocError),
-        Err(_) => Ok(None),
-    }
-}
-
-/// The one step of a list that has one.
-fn only_step(steps: &StepList<'_>) -> Option<Step>
-    ensures { result ≡ only_step steps.now }
-{
-    if steps.len() != 1 {
-        return None;
-    }
-    let mut step = Step::Advance;
-    steps.read_into(0, &mut step);
-    Some(step)
 }
 
 /// The step of a line whose items may be names.

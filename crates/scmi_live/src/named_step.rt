@@ -4,75 +4,66 @@ ghost use Rattle.std.specs.Option.{option_map};
 ghost use Rattle.scmi_plan.specs.Agent.{IsAgent};
 ghost use Rattle.scmi_plan.specs.RawPlan.{asked_board};
 ghost use Rattle.scmi_text.specs.Step.{IsStepOf, step_agent};
-ghost use Rattle.scmi_live.specs.NamedStep.{agent_of, alone, malformed_of, named_step, raw_of, refused_of, report_of, step_behind, step_of_agent, step_of_words};
+ghost use Rattle.scmi_text.specs.StepText.{step_forms};
+ghost use Rattle.scmi_text.specs.WordRow.{form_in};
+ghost use Rattle.scmi_live.specs.NamedStep.{agent_of, alone, command_behind, malformed_of, named_step, raw_of, refused_of, step_behind, step_of_agent, step_of_form};
 
-use crate::form::{FORMS, Form, form_in};
 use crate::named::number_from;
 use crate::named_call::call_of;
 use crate::payload::numbers;
-use crate::reports::{REPORT, effect_of};
+use crate::reports::report_meant;
 use scmi_board::word;
 use scmi_codec::{Fault, Header, Message};
 use scmi_plan::RawPlan;
-use scmi_text::{AgentStep, Step};
+use scmi_text::{AgentForm, AgentStep, CommandForm, STEP_FORMS, Step, StepForm, form_in};
 
-/// The step of items, on a board with this number of agents; `None` if they encode no step. They are
-/// a report of the hardware if the first is that word; else the first is the word of a form, and the
-/// second the agent.
+/// The step of items, on a board with this number of agents; `None` if they encode no step. The first
+/// is the word of a form. They are a report of the hardware, or else the second is the agent.
 pub(crate) fn named_step(board: &RawPlan, agents: u32, items: &[&[u8]]) -> Option<Step>
     ensures agent { IfSome result (IsStepOf agents) }
     ensures step { result ≡ named_step (asked_board board.now) agents
         (map (λ item. item.now) items.now) }
 {
     match items {
-        [word, second, rest @ ..] => step_of_words(board, agents, *word, *second, rest),
-        _ => None,
+        [word, rest @ ..] => step_of_form(board, agents, step_form(*word)?, rest),
+        [] => None,
     }
 }
 
-/// The step of two words and the items after them.
-fn step_of_words(
-    board: &RawPlan,
-    agents: u32,
-    word: &[u8],
-    second: &[u8],
-    items: &[&[u8]],
-) -> Option<Step>
+/// The form of a line that begins with this word.
+pub(crate) fn step_form(word: &[u8]) -> Option<StepForm>
+    ensures { result ≡ form_in word.now step_forms }
+{
+    form_in(&STEP_FORMS, word).ok()
+}
+
+/// The step of a form, and of the items after its word.
+fn step_of_form(board: &RawPlan, agents: u32, form: StepForm, items: &[&[u8]]) -> Option<Step>
     ensures agent { IfSome result (IsStepOf agents) }
-    ensures step { result ≡ step_of_words (asked_board board.now) agents word.now second.now
+    ensures step { result ≡ step_of_form (asked_board board.now) agents form
         (map (λ item. item.now) items.now) }
 {
-    if word == REPORT {
-        return report_of(board, second, items);
+    match form {
+        // It has no name in it.
+        StepForm::Advance => None,
+        StepForm::Report => {
+            let report = report_meant(board, items)?;
+            Some(Step::Report { report })
+        }
+        StepForm::Of(form) => step_of_agent(board, agents, form, items),
     }
-    step_of_agent(board, agents, word, second, items)
 }
 
-/// The step of the word of a form, an agent, and the items after it.
-fn step_of_agent(
-    board: &RawPlan,
-    agents: u32,
-    word: &[u8],
-    who: &[u8],
-    items: &[&[u8]],
-) -> Option<Step>
+/// The step of a form, an agent, and the items after it.
+fn step_of_agent(board: &RawPlan, agents: u32, form: AgentForm, items: &[&[u8]]) -> Option<Step>
     ensures agent { IfSome result (IsStepOf agents) }
-    ensures step { result ≡ step_of_agent (asked_board board.now) agents word.now who.now
+    ensures step { result ≡ step_of_agent (asked_board board.now) agents form
         (map (λ item. item.now) items.now) }
 {
-    let form = form_in(&FORMS, word)?;
-    let agent = agent_of(board, agents, who)?;
-    step_behind(board, form, agent, items)
-}
-
-/// The report of what has changed.
-fn report_of(board: &RawPlan, kind: &[u8], items: &[&[u8]]) -> Option<Step>
-    ensures agent { IfSome result (λ step. step_agent step ≡ None) }
-    ensures step { result ≡ report_of (asked_board board.now) kind.now
-        (map (λ item. item.now) items.now) }
-{
-    let effect = effect_of(board, kind, items)?;
-    Some(Step::Report { effect })
+    match items {
+        [who, rest @ ..] => step_behind(board, form, agent_of(board, agents, *who)?, rest),
+        [] => None,
+    }
 }
 
 /// The agent that an item encodes, on a board with this number of agents.
@@ -92,33 +83,44 @@ pub(crate) fn agent_of(board: &RawPlan, agents: u32, item: &[u8]) -> Option<u32>
 }
 
 /// What an agent does, by its form and the items after the agent.
-fn step_behind(board: &RawPlan, form: Form, agent: u32, items: &[&[u8]]) -> Option<Step>
+fn step_behind(board: &RawPlan, form: AgentForm, agent: u32, items: &[&[u8]]) -> Option<Step>
     ensures agent { IfSome result (λ step. step_agent step ≡ Some agent) }
     ensures step { result ≡ step_behind (asked_board board.now) form agent
         (map (λ item. item.now) items.now) }
 {
     match form {
-        Form::Do => {
+        AgentForm::Command(form) => command_behind(board, form, agent, items),
+        AgentForm::Raw => Some(of_agent(agent, raw_of(items)?)),
+        AgentForm::Malformed => Some(of_agent(agent, malformed_of(items)?)),
+        AgentForm::Collect => alone(of_agent(agent, AgentStep::Collect), items),
+        AgentForm::P2a => alone(of_agent(agent, AgentStep::P2a), items),
+        AgentForm::Close => alone(of_agent(agent, AgentStep::Close), items),
+        AgentForm::Platform(step) => alone(Step::Platform { agent, step }, items),
+        AgentForm::Restart => alone(Step::Restart { agent }, items),
+    }
+}
+
+/// What an agent does with a command.
+fn command_behind(board: &RawPlan, form: CommandForm, agent: u32, items: &[&[u8]]) -> Option<Step>
+    ensures agent { IfSome result (λ step. step_agent step ≡ Some agent) }
+    ensures step { result ≡ command_behind (asked_board board.now) form agent
+        (map (λ item. item.now) items.now) }
+{
+    match form {
+        CommandForm::Do => {
             let call = call_of(board, items)?;
             Some(Step::Do { agent, call })
         }
-        Form::Call => {
+        CommandForm::Call => {
             let call = call_of(board, items)?;
             Some(of_agent(agent, AgentStep::Call(call)))
         }
-        Form::Fail => {
+        CommandForm::Fail => {
             let call = call_of(board, items)?;
             let fault = Fault::HardwareError;
             Some(Step::Fail { agent, fault, call })
         }
-        Form::Refuse => refused_of(board, agent, items),
-        Form::Raw => Some(of_agent(agent, raw_of(items)?)),
-        Form::Malformed => Some(of_agent(agent, malformed_of(items)?)),
-        Form::Collect => alone(of_agent(agent, AgentStep::Collect), items),
-        Form::P2a => alone(of_agent(agent, AgentStep::P2a), items),
-        Form::Close => alone(of_agent(agent, AgentStep::Close), items),
-        Form::Platform(step) => alone(Step::Platform { agent, step }, items),
-        Form::Restart => alone(Step::Restart { agent }, items),
+        CommandForm::Refuse => refused_of(board, agent, items),
     }
 }
 

@@ -1,14 +1,14 @@
 //! Scripts with numbers in place of names.
 ghost use Rattle.std.specs.Prelude.{◌≡◌, Some, string_bytes, IfOk, OnOk, MatchOption};
 ghost use Rattle.scmi_plan.specs.RawPlan.{asked_board};
-ghost use Rattle.scmi_live.specs.Meant.{hardware_step};
+ghost use Rattle.scmi_text.specs.StepText.{hardware_step_of_line};
 ghost use Rattle.scmi_live.specs.Numbered.{AddsNumbered, HasNoNames, IsInNumbers, IsInNumbersOf, IsLineInNumbers};
 
-use crate::meant::{hardware_step, step_by_names};
+use crate::meant::step_by_names;
 use crate::pieces::{add_byte, copy_of};
 use scmi_board::{Lines, TextError, read_board_with_lines};
 use scmi_plan::RawPlan;
-use scmi_text::{PlainStep, Step};
+use scmi_text::{PlainStep, Step, read_one_hardware_step};
 use std::alloc::{AllocError, Global};
 
 /// A board and a script of the modes `hardware`, as they follow the line of the mode, with numbers
@@ -81,7 +81,7 @@ pub fn line_in_numbers(
         (IsLineInNumbers (asked_board board.now) agents text.now text.now)
         (λ line. IsLineInNumbers (asked_board board.now) agents text.now (string_bytes line))) }
 {
-    if hardware_step(alloc, agents, text)?.is_some() {
+    if read_one_hardware_step(text, agents).is_ok() {
         return Ok(None);
     }
     match step_by_names(alloc, board, agents, text)? {
@@ -92,11 +92,12 @@ pub fn line_in_numbers(
 
 /// The line of numbers that is this step: no line is given that is read as another.
 fn line_of(alloc: Global, agents: u32, step: &Step) -> Result<String, AllocError>
-    ensures { IfOk result (λ line. hardware_step agents (string_bytes line) ≡ Some step.now) }
+    ensures { IfOk result (λ line. hardware_step_of_line agents (string_bytes line) ≡
+        Some step.now) }
 {
     let line = format!(in alloc; "{}", PlainStep(step))?;
-    match hardware_step(alloc, agents, line.as_bytes())? {
-        Some(read) if read == *step => Ok(line),
+    match read_one_hardware_step(line.as_bytes(), agents) {
+        Ok(read) if read == *step => Ok(line),
         _ => Err(AllocError),
     }
 }

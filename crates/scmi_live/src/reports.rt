@@ -1,75 +1,104 @@
-//! The changes that hardware reports, by names.
+//! What hardware reports, by names.
 ghost use Rattle.std.specs.Prelude.{◌≡◌, map};
 ghost use Rattle.scmi_plan.specs.RawPlan.{asked_board};
-ghost use Rattle.scmi_live.specs.Reports.{effect_by, effect_of, enabled_of, flag_of, rate_of, state_of};
+ghost use Rattle.scmi_text.specs.StepText.{report_forms};
+ghost use Rattle.scmi_text.specs.WordRow.{form_in};
+ghost use Rattle.scmi_live.specs.Reports.{clock_rate_of, enabled_of, flag_of, place_of, report_by, report_meant, state_of};
 
 use crate::rate::rate_meant;
 use crate::word::word_meant;
+use scmi_board::word;
 use scmi_codec::{CLOCK_PROTOCOL, POWER_PROTOCOL, Part};
-use scmi_plan::{Effect, RawPlan};
+use scmi_plan::{Effect, RawPlan, Report};
+use scmi_text::{REPORT_FORMS, ReportForm, form_in};
 
-/// The first word of the line of a report.
-pub(crate) const REPORT: &[u8] = b"report";
-
-/// The words after it: what has changed.
-pub(crate) const STATE: &[u8] = b"state";
-
-pub(crate) const RATE: &[u8] = b"rate";
-
-pub(crate) const ENABLED: &[u8] = b"enabled";
-
-/// The change that the items after a report's two words encode: a domain and its state, or a clock
-/// and its rate, or whether it is on. `None` if they encode none.
-pub(crate) fn effect_of(board: &RawPlan, kind: &[u8], items: &[&[u8]]) -> Option<Effect>
-    ensures { result ≡ effect_of (asked_board board.now) kind.now
-        (map (λ item. item.now) items.now) }
+/// What the items after the word `report` encode; `None` if they encode nothing. The first is the word
+/// of a form.
+pub(crate) fn report_meant(board: &RawPlan, items: &[&[u8]]) -> Option<Report>
+    ensures { result ≡ report_meant (asked_board board.now) (map (λ item. item.now) items.now) }
 {
     match items {
-        [what, value] => effect_by(board, kind, *what, *value),
+        [word, rest @ ..] => report_by(board, report_form(*word)?, rest),
+        [] => None,
+    }
+}
+
+/// The form of a report that begins with this word.
+pub(crate) fn report_form(word: &[u8]) -> Option<ReportForm>
+    ensures { result ≡ form_in word.now report_forms }
+{
+    form_in(&REPORT_FORMS, word).ok()
+}
+
+/// The report of a form, and of the items after its word.
+fn report_by(board: &RawPlan, form: ReportForm, items: &[&[u8]]) -> Option<Report>
+    ensures { result ≡ report_by (asked_board board.now) form (map (λ item. item.now) items.now) }
+{
+    match form {
+        ReportForm::State => Some(Report::Changed(state_of(board, items)?)),
+        ReportForm::Rate => {
+            let (clock, rate) = clock_rate_of(board, items)?;
+            Some(Report::Changed(Effect::Rate { clock, rate }))
+        }
+        ReportForm::Enabled => Some(Report::Changed(enabled_of(board, items)?)),
+        ReportForm::First => Some(Report::First(place_of(items)?)),
+        ReportForm::Settled => {
+            let (clock, rate) = clock_rate_of(board, items)?;
+            Some(Report::Settled { clock, rate })
+        }
+    }
+}
+
+/// A power domain, and its state.
+fn state_of(board: &RawPlan, items: &[&[u8]]) -> Option<Effect>
+    ensures { result ≡ state_of (asked_board board.now) (map (λ item. item.now) items.now) }
+{
+    match items {
+        [domain, state] => {
+            let domain = word_meant(board, POWER_PROTOCOL, Part::Domain, *domain)?;
+            let state = word_meant(board, POWER_PROTOCOL, Part::State, *state)?;
+            Some(Effect::State { domain, state })
+        }
         _ => None,
     }
 }
 
-fn effect_by(board: &RawPlan, kind: &[u8], what: &[u8], value: &[u8]) -> Option<Effect>
-    ensures { result ≡ effect_by (asked_board board.now) kind.now what.now value.now }
+/// A clock, and its rate in Hz.
+fn clock_rate_of(board: &RawPlan, items: &[&[u8]]) -> Option<(u32, u64)>
+    ensures { result ≡ clock_rate_of (asked_board board.now) (map (λ item. item.now) items.now) }
 {
-    if kind == STATE {
-        return state_of(board, what, value);
+    match items {
+        [clock, rate] => {
+            let clock = word_meant(board, CLOCK_PROTOCOL, Part::Clock, *clock)?;
+            let rate = rate_meant(*rate)?;
+            Some((clock, rate))
+        }
+        _ => None,
     }
-    if kind == RATE {
-        return rate_of(board, what, value);
-    }
-    if kind == ENABLED {
-        return enabled_of(board, what, value);
-    }
-    None
 }
 
-/// The state of a power domain.
-fn state_of(board: &RawPlan, domain: &[u8], state: &[u8]) -> Option<Effect>
-    ensures { result ≡ state_of (asked_board board.now) domain.now state.now }
+/// A clock, and whether it is on.
+fn enabled_of(board: &RawPlan, items: &[&[u8]]) -> Option<Effect>
+    ensures { result ≡ enabled_of (asked_board board.now) (map (λ item. item.now) items.now) }
 {
-    let domain = word_meant(board, POWER_PROTOCOL, Part::Domain, domain)?;
-    let state = word_meant(board, POWER_PROTOCOL, Part::State, state)?;
-    Some(Effect::State { domain, state })
+    match items {
+        [clock, enabled] => {
+            let clock = word_meant(board, CLOCK_PROTOCOL, Part::Clock, *clock)?;
+            let enabled = flag_of(word_meant(board, CLOCK_PROTOCOL, Part::Enable, *enabled)?)?;
+            Some(Effect::Enabled { clock, enabled })
+        }
+        _ => None,
+    }
 }
 
-/// The rate of a clock.
-fn rate_of(board: &RawPlan, clock: &[u8], rate: &[u8]) -> Option<Effect>
-    ensures { result ≡ rate_of (asked_board board.now) clock.now rate.now }
+/// The place of a pending set, as a number.
+fn place_of(items: &[&[u8]]) -> Option<u32>
+    ensures { result ≡ place_of (map (λ item. item.now) items.now) }
 {
-    let clock = word_meant(board, CLOCK_PROTOCOL, Part::Clock, clock)?;
-    let rate = rate_meant(rate)?;
-    Some(Effect::Rate { clock, rate })
-}
-
-/// Whether a clock is on.
-fn enabled_of(board: &RawPlan, clock: &[u8], enabled: &[u8]) -> Option<Effect>
-    ensures { result ≡ enabled_of (asked_board board.now) clock.now enabled.now }
-{
-    let clock = word_meant(board, CLOCK_PROTOCOL, Part::Clock, clock)?;
-    let enabled = flag_of(word_meant(board, CLOCK_PROTOCOL, Part::Enable, enabled)?)?;
-    Some(Effect::Enabled { clock, enabled })
+    match items {
+        [place] => word(*place),
+        _ => None,
+    }
 }
 
 /// A word that is 0 or 1.

@@ -1,16 +1,16 @@
 //! Why a line with names encodes no step.
 
-use crate::form::{FORMS, Form, form_in};
 use crate::items::items_of;
 use crate::messages::{id_in, id_of, message_named, protocol_of};
-use crate::named_step::agent_of;
+use crate::named_step::{agent_of, step_form};
 use crate::rate::zeros_of;
-use crate::reports::{ENABLED, RATE, REPORT, STATE};
+use crate::reports::report_form;
 use crate::word::{is_flags, words_of_item};
 use scmi_board::word;
 use scmi_codec::{CLOCK_PROTOCOL, Fault, POWER_PROTOCOL, PROTOCOLS, Part, listed_row, rows_of};
 use scmi_decode::protocol_name;
 use scmi_plan::RawPlan;
+use scmi_text::{AgentForm, CommandForm, ReportForm, StepForm};
 use std::alloc::Global;
 
 /// Why a line encodes no step, when its names are looked up.
@@ -52,34 +52,43 @@ pub fn unknown_in<'a>(
     }
     let items = items_of(alloc, text).ok()?;
     match items.as_slice() {
-        [first, kind, rest @ ..] if *first == REPORT => unknown_report(board, *kind, rest),
-        [first, who, rest @ ..] => {
-            let form = form_in(&FORMS, *first)?;
-            if word(*who).is_some() && rest.iter().all(|item| word(*item).is_some()) {
-                return None;
-            }
-            if agent_of(board, agents, *who).is_none() {
-                return Some(Unknown::Agent(*who));
-            }
-            match form {
-                Form::Do | Form::Call | Form::Fail => unknown_command(board, 3, rest),
-                Form::Refuse => match rest {
-                    [status, ..] if Fault::of_name(*status).is_none() => {
-                        Some(Unknown::Status(*status))
-                    }
-                    [_, command @ ..] => unknown_command(board, 4, command),
-                    [] => None,
-                },
-                _ => None,
-            }
-        }
+        [first, second, rest @ ..] => match step_form(*first)? {
+            StepForm::Advance => None,
+            StepForm::Report => unknown_report(board, *second, rest),
+            StepForm::Of(form) => unknown_of_agent(board, agents, form, *second, rest),
+        },
         _ => None,
     }
 }
 
-/// Why the items of a report encode no change.
+/// Why an agent and the items after it encode no step of this form.
+fn unknown_of_agent<'a>(
+    board: &RawPlan,
+    agents: u32,
+    form: AgentForm,
+    who: &'a [u8],
+    items: &[&'a [u8]],
+) -> Option<Unknown<'a>> {
+    if word(who).is_some() && items.iter().all(|item| word(*item).is_some()) {
+        return None;
+    }
+    if agent_of(board, agents, who).is_none() {
+        return Some(Unknown::Agent(who));
+    }
+    match form {
+        AgentForm::Command(CommandForm::Refuse) => match items {
+            [status, ..] if Fault::of_name(*status).is_none() => Some(Unknown::Status(*status)),
+            [_, command @ ..] => unknown_command(board, 4, command),
+            [] => None,
+        },
+        AgentForm::Command(_) => unknown_command(board, 3, items),
+        _ => None,
+    }
+}
+
+/// Why the items of a report encode nothing.
 fn unknown_report<'a>(board: &RawPlan, kind: &[u8], items: &[&'a [u8]]) -> Option<Unknown<'a>> {
-    let (protocol, parts) = parts_of(kind)?;
+    let (protocol, parts) = parts_of(report_form(kind)?)?;
     if let Some(unit) = unit_alone(&parts, 3, items) {
         return Some(unit);
     }
@@ -93,18 +102,16 @@ fn unknown_report<'a>(board: &RawPlan, kind: &[u8], items: &[&'a [u8]]) -> Optio
     None
 }
 
-/// What a report has after the word of what has changed, and the protocol of its messages.
-fn parts_of(kind: &[u8]) -> Option<(u8, [Part; 2])> {
-    if kind == STATE {
-        return Some((POWER_PROTOCOL, [Part::Domain, Part::State]));
+/// What a report of this form has that may have a name, and the protocol of its messages.
+fn parts_of(form: ReportForm) -> Option<(u8, [Part; 2])> {
+    match form {
+        ReportForm::State => Some((POWER_PROTOCOL, [Part::Domain, Part::State])),
+        ReportForm::Rate | ReportForm::Settled => {
+            Some((CLOCK_PROTOCOL, [Part::Clock, Part::Rate]))
+        }
+        ReportForm::Enabled => Some((CLOCK_PROTOCOL, [Part::Clock, Part::Enable])),
+        ReportForm::First => None,
     }
-    if kind == RATE {
-        return Some((CLOCK_PROTOCOL, [Part::Clock, Part::Rate]));
-    }
-    if kind == ENABLED {
-        return Some((CLOCK_PROTOCOL, [Part::Clock, Part::Enable]));
-    }
-    None
 }
 
 /// Why items, of which the first has this number in the line, encode no command.
