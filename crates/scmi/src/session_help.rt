@@ -37,7 +37,9 @@ const ROWS: [HelpRow; 18] = rows![
     "bad" "AGENT LENGTH HEADER" "the agent posts a malformed frame";
     "close" "AGENT" "the agent closes its channels";
     "shut" "AGENT" "the platform closes the agent's channels";
-    "report" "state DOMAIN STATE|rate CLOCK RATE|enabled CLOCK on|off" "the hardware changed it by itself";
+    "report"
+        "state DOMAIN STATE|rate CLOCK RATE|enabled CLOCK on|off|first PLACE|settled CLOCK RATE"
+        "the hardware changed it by itself, ends the set at PLACE first, or gives a free clock this rate";
     "restart" "AGENT" "the agent restarted: the platform ends what the agent asked for";
     "words" "on|off" "replies are described, or are not";
     "help" "[WORD]" "WORD is one of these, a message, messages, board or all";
@@ -45,8 +47,9 @@ const ROWS: [HelpRow; 18] = rows![
 ];
 
 /// Words that items may be on every board, besides the names of flags.
-const WORDS: [&str; 10] = [
+const WORDS: [&str; 12] = [
     "base", "power", "clock", "on", "off", "failed", "refused", "state", "rate", "enabled",
+    "first", "settled",
 ];
 
 /// Parts whose flags have names; those of a power domain's set are among those of a rate's.

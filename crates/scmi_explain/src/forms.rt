@@ -95,17 +95,22 @@ pub(crate) const STEPS: [Form; 11] = forms![
 ];
 
 /// Its lines in the modes `hardware` alone.
-pub(crate) const HARDWARE_STEPS: [Form; 8] = forms![
+pub(crate) const HARDWARE_STEPS: [Form; 10] = forms![
     "fail" [Field::Agent, BYTE, BYTE] true "fail A P M W..";
     "refuse" [Field::Agent, Field::Status, BYTE, BYTE] true "refuse A STATUS P M W..";
     "advance" [Field::Either(&["failed", "refused"])] false "advance failed";
     "advance" [Field::Either(&["refused", "failed"]), Field::Status] false
         "advance refused STATUS";
-    "report" [Field::Either(&["state", "rate", "enabled"]), WORD, WORD] false "report state D W";
-    "report" [Field::Either(&["rate", "state", "enabled"]), WORD, WORD, WORD] false
-        "report rate C LOW HIGH";
-    "report" [Field::Either(&["enabled", "state", "rate"]), WORD, WORD] false
+    "report" [Field::Either(&["state", "rate", "enabled", "first", "settled"]), WORD, WORD] false
+        "report state D W";
+    "report" [Field::Either(&["rate", "state", "enabled", "first", "settled"]), WORD, WORD, WORD]
+        false "report rate C LOW HIGH";
+    "report" [Field::Either(&["enabled", "state", "rate", "first", "settled"]), WORD, WORD] false
         "report enabled C B";
+    "report" [Field::Either(&["first", "state", "rate", "enabled", "settled"]), WORD] false
+        "report first PLACE";
+    "report" [Field::Either(&["settled", "state", "rate", "enabled", "first"]), WORD, WORD, WORD]
+        false "report settled C LOW HIGH";
     "restart" [Field::Agent] false "restart A";
 ];
 
