@@ -1,4 +1,4 @@
--- Which events a history has without the hardware's refusals and reports, without restarts, and without promotions and settled rates.
+-- Which events a history has without the hardware's refusals and reports, without restarts, and without promotions and settlings; and what each of these alone is needed for.
 use Rattle.std.specs.Prelude.{◌≡◌, ◌⊎◌, List, [], ◌++◌, Option, None, Some}
 use Rattle.std.specs.List.{All}
 use Rattle.std.specs.Option.{option_and_then, option_to_list}
@@ -40,7 +40,7 @@ abbrev pub IsNoPromotion : Event → Type 0
 IsNoPromotion (Promoted place) = ⊥
 IsNoPromotion _ = Unit {0}
 
--- any event but a settled rate
+-- any event but one that settles a set
 abbrev pub IsNoSettling : Event → Type 0
 IsNoSettling (Settled clock rate) = ⊥
 IsNoSettling _ = Unit {0}

@@ -42,7 +42,7 @@ impl Setting {
     }
 
     /// The setting with another rate, if it is one of this clock.
-    pub(crate) fn with_rate(self, clock: u32, rate: u64) -> Setting
+    pub fn with_rate(self, clock: u32, rate: u64) -> Setting
         ensures { result ≡ setting_with clock rate self }
     {
         match self {

@@ -1,5 +1,5 @@
 //! What a platform is without the hardware's refusals and reports, restarts, promotions and
-//! settled rates.
+//! settlings.
 ghost use Rattle.std.specs.Prelude.{◌++◌, ◌∷◌, [], List};
 ghost use Rattle.std.specs.List.{All};
 ghost use Rattle.scmi_plan.specs.Board.{Board};
@@ -9,10 +9,10 @@ ghost use Rattle.scmi_core.specs.Standing.{MovesOn, Standing, StandsAfter};
 ghost use Rattle.scmi_core.specs.declared.event.Event.{Event};
 
 /// Beside hardware that never refuses and reports nothing, and without restarts, promotions and
-/// settled rates, a history has commands, advances and postings alone, and a platform is as such a
+/// settlings, a history has commands, advances and postings alone, and a platform is as such a
 /// history leaves it. Whatever else it has, without promotions sets end in order of acceptance, and
-/// without settled rates each change is what a command asked for, or the hardware reported it. It
-/// does nothing: its clauses are the laws.
+/// if none was settled each change is what a command asked for, or the hardware reported it. It does
+/// nothing: its clauses are the laws.
 ///
 /// `Core` and `Platform` add one event with each call. It is plain if the call is `command`,
 /// `advance` or `sent`, or if it is `command_on` or `advance_on` and the hardware never refuses
