@@ -17,8 +17,8 @@ from typing import NamedTuple
 
 sys.dont_write_bytecode = True
 from model import (FAULTS, HARDWARE_ERROR, MOST_WAITING, State, agents_of, completed, executed, first_state,  # noqa: E402
-                   load_of, posted, refused, refused_answer, taken, with_item)
-from texts import Answered, read_board, read_record  # noqa: E402
+                   load_of, posted, refused, refused_answer, taken, told, with_item)
+from texts import Answered, Delivered, Told, read_board, read_record  # noqa: E402
 
 MOST_STATES = 2000
 # The option of a check by which the hardware may have refused a pending set that wants a response, or said another status
@@ -44,7 +44,7 @@ class TooMany(Exception):
 
 def is_refusal(entry):
     """Whether an entry is a delayed response that says that the hardware refused."""
-    return not isinstance(entry, Answered) and entry.message[1] == (HARDWARE_ERROR,) and entry.message[0] >> 28 == 0 \
+    return isinstance(entry, Delivered) and entry.message[1] == (HARDWARE_ERROR,) and entry.message[0] >> 28 == 0 \
         and entry.message[0] >> 8 & 3 == 2
 
 
@@ -137,13 +137,23 @@ class Judge:
         if state is not None and state.posted[entry.agent - 1] == entry.message:
             yield guess._replace(state=taken(state, entry.agent))
 
+    def after_told(self, guess, entry):
+        state = told(self.board, guess.state, entry.what)
+        if state is not None:
+            yield guess._replace(state=state)
+
     def fitting(self, guess, entry):
         """The guesses after an entry, from one before it."""
+        if isinstance(entry, Told):
+            return self.after_told(guess, entry)
         return self.after_answer(guess, entry) if isinstance(entry, Answered) else self.after_message(guess, entry)
 
     def unseen(self, guess, entry):
         """The guesses after an entry, whatever it shows: its command was executed, or was not; or the message in the
-        channel of its agent was taken, or was not."""
+        channel of its agent was taken, or was not; or the hardware did not tell it."""
+        if isinstance(entry, Told):
+            yield guess
+            return
         if not isinstance(entry, Answered):
             yield from (guess, guess._replace(state=taken(guess.state, entry.agent)))
             return
@@ -181,19 +191,20 @@ def last_line(board, entries, refuses, post=post_at_once, most=MOST_STATES):
 
 def report_of(board, entries, refuses):
     """The lines of a report."""
-    judge, same = Judge(board, refuses), 0
+    judge, seen, same = Judge(board, refuses), 0, 0
     for entry in entries:
         try:
             right = judge.see(entry)
         except TooMany:
             break
         hardware = " by hardware" * (is_refusal(entry) and not refuses)
-        yield f"{entry.line} {'same' if right else 'differs' + hardware}"
+        if not right or not isinstance(entry, Told):
+            yield f"{entry.line} {'same' if right else 'differs' + hardware}"
         if not right:
             break
-        same += 1
+        seen, same = seen + 1, same + (not isinstance(entry, Told))
     differs = int(not judge.guesses)
-    for entry in entries[same + differs:][:1]:
+    for entry in entries[seen + differs:][:1]:
         yield f"{entry.line} unsure, and judged no further"
     yield f"{same} same, 0 own, {differs} differ"
 

@@ -19,7 +19,7 @@ sys.dont_write_bytecode = True
 from exact import MOST_STATES, REFUSALS, Judge, TooMany, is_refusal, with_command  # noqa: E402
 from model import CLOCK, POWER, SUCCESS, agents_of, executed, header_of  # noqa: E402
 from own import findings_of  # noqa: E402
-from texts import Answered, answer_text, read_board, read_record  # noqa: E402
+from texts import Answered, Told, answer_text, read_board, read_record  # noqa: E402
 
 # A check looks at so many entries, and at no more.
 MOST = 31
@@ -74,6 +74,8 @@ class Looker:
 
     def explanation(self, place, entry):
         one, behind = self.past[place], (*(judged.entry for judged in self.past[place + 1:]), entry)
+        if isinstance(one.entry, Told):
+            return Explanation(one.entry.line, set(), 0)  # it is no candidate
         try:
             return Explanation(one.entry.line, *self.without(one, behind))
         except TooMany:
@@ -166,7 +168,8 @@ class Reporter:
 
     def judge(self, entry):
         if self.looker.see(entry):
-            yield self.told(entry, "same")
+            if not isinstance(entry, Told):
+                yield self.told(entry, "same")
             return
         findings = self.looker.findings(entry)
         finding = min(findings, key=lambda one: (one == "differs", one))

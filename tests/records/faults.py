@@ -3,7 +3,7 @@
 Each kind gets the items of a record and gives them with its fault; None if there is no place for it. Such a record may
 have a legal history after all: what is expected of it is what exact.py says.
 """
-from history import Asked, Got, Took
+from history import Asked, Got, Tells, Took
 from model import CLOCK, OFF, ON, POWER, halves, protocol_of
 
 STATUSES = [-status & 0xFFFFFFFF for status in range(11)]
@@ -19,6 +19,10 @@ def is_answer(item):
 
 def is_reply(item):
     return is_answer(item) and item.answer[0] == "reply"
+
+
+def is_told(item):
+    return isinstance(item, Tells)
 
 
 def is_message(item):
@@ -216,9 +220,21 @@ def answered_early(_, items):
     return None if early == items else early
 
 
+def untold(rng, items):
+    """The record lacks what the hardware told."""
+    place = one_of(rng, places(items, is_told))
+    return None if place is None else items[:place] + items[place + 1:]
+
+
+def first_other(rng, items):
+    """The hardware told of another place."""
+    return changed(rng, items, lambda item: is_told(item) and item.what[0] == "first",
+                   lambda item: item._replace(what=("first", item.what[1] ^ rng.choice((1, 2, 8)))))
+
+
 KINDS = {
     "status": status, "word": word, "header": header, "short": short, "long": long, "error": error, "stale": stale,
     "message-word": message_word, "message-header": message_header, "twice": twice, "lost": lost, "swapped": swapped,
     "early": early, "other": other, "elsewhere": elsewhere, "exchanged": exchanged, "asked-late": asked_late,
-    "answered-early": answered_early,
+    "answered-early": answered_early, "untold": untold, "first-other": first_other,
 }

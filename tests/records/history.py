@@ -8,8 +8,8 @@ from typing import NamedTuple
 
 from model import (BASE, CLOCK, FAULTS, HARDWARE_ERROR, OFF, ON, POWER, PROTOCOLS, THE_CALLER, Board, Channel, Clock,
                    Device, Domain, agents_of, completed, executed, first_state, header_of, posted, refused,
-                   refused_answer, taken)
-from texts import DEFAULT_WORDS, Tokens, answer_line, frame_of, message_line
+                   refused_answer, taken, told)
+from texts import DEFAULT_WORDS, Tokens, answer_line, frame_of, message_line, told_line
 
 LETTERS = [chr(byte) for byte in range(0x21, 0x7F)]
 # How many rates a list has: most boards are short, since a check reads them often.
@@ -49,6 +49,14 @@ class Took(NamedTuple):
         return message_line(self.agent, self.message)
 
 
+class Tells(NamedTuple):
+    """What the hardware told."""
+    what: tuple
+
+    def line(self):
+        return told_line(self.what)
+
+
 class Mix(NamedTuple):
     """How often each kind of command comes, and of each other step for ten commands."""
     kinds: dict
@@ -60,6 +68,7 @@ class Mix(NamedTuple):
     prompt: float = 0.8  # the share of commands whose answers follow at once
     executions: float = 0  # how often one command is executed, and one answer shown, while others wait
     silent: float = 0  # the share of commands that get no answer, of which half are never executed
+    tells: float = 0  # how often the hardware tells what it does by itself
     sizes: tuple = ("small",) * 14 + ("middle",) * 5 + ("large",)
 
 
@@ -81,6 +90,10 @@ MIXES = {
                             prompt=0.2, executions=12, sizes=("more",)),
     "overlapping-many": Mix({"read": 6, "set": 4, "notify": 1, "permit": 1, "config": 1}, prompt=0.3, executions=16,
                             sizes=("eight",)),
+    "told": Mix({"later": 6, "set": 3, "read": 6, "notify": 3, "config": 1}, completions=1, tells=4, refusals=0.05,
+                sizes=("many", "two", "middle")),
+    "told-overlapping": Mix({"later": 4, "set": 4, "read": 4, "notify": 2}, prompt=0.2, executions=8, completions=1,
+                            tells=3, sizes=("two",)),
     "unanswered": Mix({"read": 4, "set": 5, "later": 2, "notify": 2, "permit": 1}, prompt=0.3, executions=10,
                       silent=0.1, sizes=("two", "more")),
 }
@@ -394,6 +407,18 @@ class History:
             self.refuses |= fails
             self.move(refused(self.state) if fails else completed(self.board, self.state))
 
+    def tell(self):
+        """The hardware tells what it does by itself, if it may."""
+        commands, rng = self.commands, self.rng
+        what = rng.choice((("first", rng.randrange(8)), ("first", rng.randrange(2)),
+                           ("state", commands.domain(), rng.choice((ON, OFF))),
+                           ("rate", commands.clock(), rng.randrange(1 << rng.choice((8, 64)))),
+                           ("enabled", commands.clock(), rng.randrange(2))))
+        state = told(self.board, self.state, what)
+        if state is not None:
+            self.items.append(Tells(what))
+            self.move(state)
+
     def one_of(self, agents):
         agents = list(agents)
         return self.rng.choice(agents) if agents else None
@@ -413,11 +438,11 @@ class History:
     def go_on(self, entries):
         """Goes on until so many answers and messages are shown, or a while."""
         mix = self.mix
-        steps = (self.ask, self.complete, self.post, self.take, self.execute_one, self.answer_one)
-        weights = (10, mix.completions, mix.postings, mix.takings, mix.executions, mix.executions)
+        steps = (self.ask, self.complete, self.post, self.take, self.execute_one, self.answer_one, self.tell)
+        weights = (10, mix.completions, mix.postings, mix.takings, mix.executions, mix.executions, mix.tells)
         for _ in range(20 * entries):
             self.rng.choices(steps, weights)[0]()
-            if sum(not isinstance(item, Asked) for item in self.items) >= entries:
+            if sum(isinstance(item, (Got, Took)) for item in self.items) >= entries:
                 break
 
 

@@ -69,8 +69,13 @@ def marked(looker, entry, named):
 def marked_first(report, case):
     """What is wrong with the line that is named at the first difference, and with what is found up to there."""
     looker, dues, unless = Looker(case.board, case.refuses), dict(report.dues), dict(report.unless)
+    found, last = dict(report.findings), max((line for line, _ in report.findings), default=0)
     try:
-        for entry, (line, finding) in zip(case.entries, report.findings):
+        for entry in case.entries:
+            if entry.line > last:
+                break
+            # What the hardware told has a line only if it differs.
+            line, finding = entry.line, found.get(entry.line, "same")
             why = wrong_finding(looker, entry, finding, dues.get(line))
             if why:
                 return Marked(why, False)

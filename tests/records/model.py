@@ -171,6 +171,27 @@ def refused(state):
     return with_message(state, one.agent, (one.header, (HARDWARE_ERROR,))) if one.wanted else state
 
 
+def told(board, state, what):
+    """The hardware tells what it does by itself; None if that can't be. It has changed a value, ("state", D, W),
+    ("rate", C, R) or ("enabled", C, B), or ends the pending set at a place first, ("first", PLACE)."""
+    kind, place, *values = what
+    if kind == "settled":
+        return None  # no clock of these boards is free
+    if kind == "first":
+        if place >= len(state.pending):
+            return None
+        before, behind = state.pending[:place], state.pending[place + 1:]
+        return state._replace(pending=(state.pending[place], *before, *behind))
+    if kind == "state":
+        can = place < len(board.domains) and values[0] in (ON, OFF)
+        return with_domain(board, state, 0, place, *values) if can else None
+    if place >= len(board.clocks):
+        return None
+    if kind == "rate":
+        return state._replace(rates=with_item(state.rates, place, *values))
+    return state._replace(enabled=with_item(state.enabled, place, *values))
+
+
 def posted(state, agent):
     """The first message of an agent is posted into its channel; None if there is none, or one is in the channel."""
     outbox = state.outboxes[agent - 1]

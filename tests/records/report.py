@@ -4,7 +4,7 @@ from typing import NamedTuple
 
 from exact import Judge, TooMany, is_refusal
 from own import findings_of
-from texts import Answered
+from texts import Answered, Told
 
 ENTRY = re.compile(r"(\d+) (same|differs|own [a-z-]+)( .*)?")
 # A difference of a response that says that the hardware refused, of a check without --refusals.
@@ -108,9 +108,16 @@ def wrong_name(report):
     return None
 
 
+def shown_of(report, entries):
+    """The entries that have a line in a report: all, but what the hardware told has one only if it differs."""
+    differing = {line for line, finding in report.findings if finding == "differs"}
+    return [entry for entry in entries if not isinstance(entry, Told) or entry.line in differing]
+
+
 def wrong_form(report, case, status):
     """What is wrong with the form of a report; None if nothing is."""
-    judged = [entry.line for entry in case.entries if report.unsure is None or entry.line < report.unsure]
+    judged = [entry.line for entry in shown_of(report, case.entries)
+              if report.unsure is None or entry.line < report.unsure]
     words = [finding.split()[0] for _, finding in report.findings]
     counts = tuple(words.count(word) for word in ("same", "own", "differs"))
     if [line for line, _ in report.findings] != judged:

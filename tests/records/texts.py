@@ -2,7 +2,7 @@
 from typing import NamedTuple
 
 from model import (CLOCK, MOST_PENDING, OFF, ON, POWER, PROTOCOLS, TOKENS, Board, Channel, Clock, Device, Domain,
-                   header_of, protocol_of)
+                   halves, header_of, protocol_of)
 
 DEFAULT_WORDS = 64
 HEADER_BYTES = 28
@@ -22,6 +22,13 @@ class Delivered(NamedTuple):
     line: int
     agent: int
     message: tuple
+    posted: tuple
+
+
+class Told(NamedTuple):
+    """The hardware told something; and what was posted after the entry before, as in Answered."""
+    line: int
+    what: tuple
     posted: tuple
 
 
@@ -150,6 +157,19 @@ def message_line(agent, message):
     return f"{agent} p2a" + words_text((message[0], *message[1]))
 
 
+def told_line(what):
+    """The line of what the hardware told."""
+    kind, place, *values = what
+    words = halves(*values) if kind == "rate" else values
+    return " ".join(["report", kind, str(place), *(f"{word:#x}" for word in words)])
+
+
+def told_of(kind, *numbers):
+    """What the hardware told, by the words of a line."""
+    place, *words = (int(one, 0) for one in numbers)
+    return (kind, place, words[0] | words[1] << 32) if kind == "rate" else (kind, place, *words)
+
+
 class Tokens(dict):
     """The next token of each agent."""
 
@@ -174,7 +194,8 @@ def answer_of(word, numbers):
 
 
 def read_record(text):
-    """The entries of a record: each answer with its frame, and each message, but of protocols that are not checked."""
+    """The entries of a record: each answer with its frame, and each message, but of protocols that are not checked; and
+    what the hardware told."""
     tokens, waiting, posted, entries = Tokens(), {}, (), []
     for number, line in enumerate(text.splitlines(), 1):
         items = line.split()
@@ -184,6 +205,10 @@ def read_record(text):
             agent, *numbers = (int(item, 0) for item in items[1:])
             waiting[agent] = frame_of(items[0], agent, numbers, tokens)
             posted += ((agent, waiting[agent]),) * (protocol_of(header_in(waiting[agent])) in PROTOCOLS)
+            continue
+        if items[0] == "report":
+            entries.append(Told(number, told_of(*items[1:]), posted))
+            posted = ()
             continue
         agent, numbers = int(items[0]), [int(item, 0) for item in items[2:]]
         if items[1] == "p2a":

@@ -7,7 +7,7 @@ use Rattle.scmi_codec.specs.declared.frame.Frame.TheVariants.{Good, Malformed}
 use Rattle.scmi_codec.specs.declared.message.Message.{Message}
 use Rattle.scmi_judge.specs.Due.{IsDue, in_place}
 use Rattle.scmi_judge.specs.declared.entry.Entry.{Entry}
-use Rattle.scmi_judge.specs.declared.entry.Entry.TheVariants.{Answered, Asked, Delivered, GivenUp, Replied}
+use Rattle.scmi_judge.specs.declared.entry.Entry.TheVariants.{Answered, Asked, Delivered, GivenUp, Replied, Told}
 use Rattle.scmi_judge.specs.declared.verdict.Verdict.{Verdict}
 use Rattle.scmi_judge.specs.declared.verdict.Verdict.TheVariants as verdict
 use Rattle.scmi_check.specs.Finding.{Fits, answer_finding, finding_of, judged_as, reply_finding}
@@ -74,12 +74,14 @@ answer-other (Replied k a (Good command) Released) due = λ is. absurd (cc)
 answer-other (Replied k a (Good command) ChannelError) due = λ is. absurd (cc)
 answer-other (Replied k a (Malformed len header) answer) due = λ is. absurd (cc)
 answer-other (GivenUp k) due = λ is. absurd (cc)
+answer-other (Told report) due = λ is. absurd (cc)
 
 -- an entry that is found the same has that verdict
 pub same-found : (entry : Entry) (v : Verdict) → finding_of entry v ≡ Same → v ≡ verdict.Same
 same-found entry verdict.Same is = refl
 same-found entry verdict.NoAgent is = absurd (cc)
 same-found entry verdict.NoMessage is = absurd (cc)
+same-found entry verdict.NoReport is = absurd (cc)
 same-found entry (verdict.Message due) is = absurd (cc)
 same-found entry (verdict.Answer (Reply due)) is = absurd (answer-other entry due is)
 same-found entry (verdict.Answer Released) is = absurd (cc)
@@ -94,6 +96,7 @@ pub own-due : (entry : Entry) (v : Verdict) (rule : OwnRule) (Does : Entry → T
 own-due entry verdict.Same rule Does is due = absurd (cc)
 own-due entry verdict.NoAgent rule Does is due = absurd (cc)
 own-due entry verdict.NoMessage rule Does is due = absurd (cc)
+own-due entry verdict.NoReport rule Does is due = absurd (cc)
 own-due entry (verdict.Message message) rule Does is due = absurd (cc)
 own-due (Answered a frame answer) (verdict.Answer reply) rule Does is due = due
 own-due (Replied k a frame answer) (verdict.Answer reply) rule Does is due = due
@@ -103,6 +106,9 @@ own-due (Asked k a frame) (verdict.Answer ChannelError) rule Does is due = absur
 own-due (GivenUp k) (verdict.Answer (Reply reply)) rule Does is due = absurd (cc)
 own-due (GivenUp k) (verdict.Answer Released) rule Does is due = absurd (cc)
 own-due (GivenUp k) (verdict.Answer ChannelError) rule Does is due = absurd (cc)
+own-due (Told report) (verdict.Answer (Reply reply)) rule Does is due = absurd (cc)
+own-due (Told report) (verdict.Answer Released) rule Does is due = absurd (cc)
+own-due (Told report) (verdict.Answer ChannelError) rule Does is due = absurd (cc)
 own-due (Delivered a message) (verdict.Answer (Reply reply)) rule Does is due = absurd (cc)
 own-due (Delivered a message) (verdict.Answer Released) rule Does is due = absurd (cc)
 own-due (Delivered a message) (verdict.Answer ChannelError) rule Does is due = absurd (cc)

@@ -12,7 +12,7 @@ use Rattle.scmi_codec.specs.declared.frame.Frame.TheVariants.{Good}
 use Rattle.scmi_codec.specs.declared.message.Message.{Message}
 use Rattle.scmi_plan.specs.declared.limits.TheConstants.{AGENTS}
 use Rattle.scmi_judge.specs.declared.entry.Entry.{Entry}
-use Rattle.scmi_judge.specs.declared.entry.Entry.TheVariants.{Answered, Asked, Delivered, GivenUp, Replied}
+use Rattle.scmi_judge.specs.declared.entry.Entry.TheVariants.{Answered, Asked, Delivered, GivenUp, Replied, Told}
 use Rattle.scmi_text.specs.declared.step.Call.{Call}
 use Rattle.scmi_check.specs.Asking.{AskingView, is_free, is_to_ask, place_of_line, with_all_asked, with_all_given_up, with_asked, with_free, with_given_up, with_one, with_place, without_answer}
 use Rattle.scmi_check.specs.LeftOut.{LeftView, is_judged, with_left, with_no_answer, with_no_answers, with_note, with_notes, with_skipped, frame_protocol}
@@ -23,6 +23,7 @@ use Rattle.scmi_check.specs.declared.note.Note.{Note}
 use Rattle.scmi_check.specs.declared.note.NoteKind.TheVariants.{Lost, Unmatched}
 use Rattle.scmi_check.specs.declared.placed.Placed.{Placed}
 use Rattle.scmi_check.specs.declared.shown.Shown.{Shown}
+use Rattle.scmi_check.specs.declared.shown.Shown.TheVariants as seen
 use Rattle.scmi_check.specs.declared.shown.Shown.TheVariants.{Called, Posted, PostedBeside, Got, Responded, Took, Missed, Skipped}
 use Rattle.scmi_check.specs.declared.waiting.Waiting.{Waiting}
 
@@ -323,6 +324,8 @@ module _ (placed : List Placed) (notes : List Note) where
       ap (λ (s : Shows). Some s) (response-onto shows line a message)
   shown-onto shows line (Took a message) = ap (λ (s : Shows). Some s)
       (entry-onto shows line (Delivered a message))
+  shown-onto shows line (seen.Told report) = ap (λ (s : Shows). Some s)
+      (entry-onto shows line (Told report))
   shown-onto shows line (Missed lost) = ap (λ (s : Shows). Some s) (lost-onto shows line lost)
   shown-onto shows line Skipped = refl
 

@@ -11,7 +11,7 @@ use Rattle.scmi_codec.specs.declared.header.TheConstants.{TOKENS}
 use Rattle.scmi_codec.specs.declared.message.Message.{Message}
 use Rattle.scmi_plan.specs.declared.limits.TheConstants.{AGENTS}
 use Rattle.scmi_judge.specs.declared.entry.Entry.{Entry}
-use Rattle.scmi_judge.specs.declared.entry.Entry.TheVariants.{Answered, Asked, Delivered, GivenUp, Replied}
+use Rattle.scmi_judge.specs.declared.entry.Entry.TheVariants.{Answered, Asked, Delivered, GivenUp, Replied, Told}
 use Rattle.scmi_text.specs.TextLines.{after_each_line}
 use Rattle.scmi_check.specs.Asking.{AskingView, asking_view, nothing_asked, place_of_line, with_all_asked, with_all_given_up, with_asked, with_free, with_given_up, with_one}
 use Rattle.scmi_text.specs.declared.step.Call.{Call}
@@ -23,6 +23,7 @@ use Rattle.scmi_check.specs.declared.note.NoteKind.TheVariants.{Unmatched, Lost}
 use Rattle.scmi_check.specs.declared.placed.Placed.{Placed}
 use Rattle.scmi_check.specs.declared.record.Record.{Record}
 use Rattle.scmi_check.specs.declared.shown.Shown.{Shown}
+use Rattle.scmi_check.specs.declared.shown.Shown.TheVariants as seen
 use Rattle.scmi_check.specs.declared.shown.Shown.TheVariants.{Called, Posted, PostedBeside, Got, Responded, Took, Missed, Skipped}
 use Rattle.scmi_check.specs.declared.so_far.SoFar.{SoFar}
 use Rattle.scmi_check.specs.declared.waiting.Early.{Early}
@@ -97,6 +98,7 @@ entry_protocol (Delivered a message) = Some message.header.protocol
 entry_protocol (Asked place a frame) = frame_protocol frame
 entry_protocol (Replied place a frame answer) = frame_protocol frame
 entry_protocol (GivenUp place) = None
+entry_protocol (Told report) = None
 
 -- the entries that are shown, and the commands among them that are answered later
 abbrev pub asking_of : Shows → AskingView
@@ -266,6 +268,7 @@ with_shown shows line (PostedBeside a message) = Some (with_traced shows line a 
 with_shown shows line (Got a answer) = with_answer shows line a answer
 with_shown shows line (Responded a message) = Some (with_response shows line a message)
 with_shown shows line (Took a message) = Some (with_entry shows line (Delivered a message))
+with_shown shows line (seen.Told report) = Some (with_entry shows line (Told report))
 with_shown shows line (Missed lost) = Some (with_lost shows line lost)
 with_shown shows line Skipped = Some shows
 

@@ -1,6 +1,7 @@
 -- What the lines of a record show.
 use Rattle.std.specs.Prelude.{ℕ, ◌+◌, nat_lt, if◌then◌else◌, List, map, Option, Some, None}
 use Rattle.std.specs.List.{slice_split}
+use Rattle.std.specs.Str.{bytes_eq}
 use Rattle.scmi_board.specs.Items.{◌>>=◌, ItemsView, first_item, first_number, items_left, no_item}
 use Rattle.scmi_codec.specs.declared.message.Message.{Message}
 use Rattle.scmi_codec.specs.declared.frame.Frame.TheVariants.{Good, Malformed}
@@ -13,7 +14,7 @@ use Rattle.scmi_decode.specs.declared.traced.Traced.{Traced}
 use Rattle.scmi_decode.specs.declared.traced.Traced.TheVariants as traced
 use Rattle.scmi_text.specs.Fields.{first_agent, payload_left}
 use Rattle.scmi_text.specs.StepHead.{raw_with}
-use Rattle.scmi_text.specs.StepText.{plain_step_of_line}
+use Rattle.scmi_text.specs.StepText.{plain_step_of_line, report_left}
 use Rattle.scmi_text.specs.WordRow.{form_in}
 use Rattle.scmi_text.specs.declared.step.AgentStep.TheVariants as agent
 use Rattle.scmi_text.specs.declared.step.Step.{Step}
@@ -25,7 +26,8 @@ use Rattle.scmi_check.specs.declared.seen.SeenForm.{SeenForm}
 use Rattle.scmi_check.specs.declared.seen.SeenForm.TheVariants as form
 use Rattle.scmi_check.specs.declared.seen.TheConstants.{SEEN_FORMS}
 use Rattle.scmi_check.specs.declared.shown.Shown.{Shown}
-use Rattle.scmi_check.specs.declared.shown.Shown.TheVariants.{Called, Posted, PostedBeside, Got, Responded, Took, Missed, Skipped}
+use Rattle.scmi_check.specs.declared.shown.TheConstants.{REPORT}
+use Rattle.scmi_check.specs.declared.shown.Shown.TheVariants.{Called, Posted, PostedBeside, Got, Responded, Took, Told, Missed, Skipped}
 
 -- the command that a step posts: by `do`, `raw` or `bad`
 abbrev pub command_shown : Step → Option Shown
@@ -74,11 +76,23 @@ seen_at agents view = do
   form ← form_in word.0 seen_forms
   seen_behind form agent.0 word.1
 
--- what a line of a session shows: the command of a step, as a script has it, or else what an agent got, as a run's output has it
+-- what the hardware told, behind the word `report`, as a script has it
+unfoldable pub told_left : ItemsView → Option Shown
+told_left view = do
+  report ← report_left view
+  Some (Told report)
+
+-- what happened beside the commands: what the hardware told, or else what an agent got, as a run's output has it
+unfoldable pub happened_at : ℕ → ItemsView → Option Shown
+happened_at agents view = do
+  word ← first_item view
+  if bytes_eq word.0 REPORT.now then told_left word.1 else seen_at agents view
+
+-- what a line of a session shows: the command of a step, as a script has it, or else what happened beside the commands
 unfoldable pub session_shown : ℕ → List ℕ → Option Shown
 session_shown agents text = elim (plain_step_of_line agents text) [
   | Some step ↦ command_shown step
-  | None ↦ seen_at agents (items_left text)
+  | None ↦ happened_at agents (items_left text)
 ]
 
 -- what the message of an event shows: the agent posts a command, over any of its channels, gets the response to that of its token, and takes any other

@@ -7,7 +7,7 @@ use crate::help::Help;
 use crate::judged::Judged;
 use crate::lost::Lost;
 use crate::note::{Note, NoteKind};
-use crate::reasons::status_of_reply;
+use crate::reasons::{status_of_reply, wanted_of, write_report};
 use crate::trace_time::TraceTime;
 use scmi_codec::{Answer, Message};
 use scmi_judge::{Entry, Verdict};
@@ -66,6 +66,7 @@ fn write_reasons<W: Write>(writer: &mut W, one: &Judged) -> io::Result<()> {
     match &one.verdict {
         Verdict::Answer(expected) => write_answer(writer, expected)?,
         Verdict::Message(expected) => write_words(writer, expected)?,
+        Verdict::NoReport => write!(writer, "\"{}\"", wanted_of(&one.entry))?,
         Verdict::Same | Verdict::NoAgent | Verdict::NoMessage => write!(writer, "null")?,
     }
     write!(writer, ",\"got\":")?;
@@ -75,6 +76,11 @@ fn write_reasons<W: Write>(writer: &mut W, one: &Judged) -> io::Result<()> {
         }
         Entry::Delivered { message, .. } => write_words(writer, message),
         Entry::Asked { .. } | Entry::GivenUp { .. } => write!(writer, "null"),
+        Entry::Told { report } => {
+            write!(writer, "\"")?;
+            write_report(writer, *report)?;
+            write!(writer, "\"")
+        }
     }
 }
 

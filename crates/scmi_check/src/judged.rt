@@ -59,6 +59,7 @@ fn copy_of(verdict: &Verdict) -> Verdict
         Verdict::Same => Verdict::Same,
         Verdict::NoAgent => Verdict::NoAgent,
         Verdict::NoMessage => Verdict::NoMessage,
+        Verdict::NoReport => Verdict::NoReport,
     }
 }
 

@@ -1,10 +1,10 @@
 //! The lines that set the states and rates of a board.
 use crate::judged::Judged;
-use crate::subject::{is_set, subject_of};
+use crate::subject::{changed_by, subject_of};
 use scmi_plan::{CLOCKS, DOMAINS, Resource};
 
 /// The line of the last set of each domain and each clock that a board may have which was answered by
-/// SUCCESS, by the entries so far.
+/// SUCCESS, or at which the hardware told of another value, by the entries so far.
 #[derive(Clone, Copy)]
 pub(crate) struct LastSets {
     domains: [Option<u32>; DOMAINS],
@@ -30,12 +30,9 @@ impl LastSets {
         line.copied().unwrap_or(None)
     }
 
-    /// Notes an entry, if it is such a set.
+    /// Notes an entry, if it is such a set, or the hardware told of another value.
     pub fn add(&mut self, one: &Judged) {
-        if !is_set(&one.entry) {
-            return;
-        }
-        match subject_of(&one.entry) {
+        match changed_by(one) {
             Some(Resource::Domain(domain)) if (domain as usize) < DOMAINS => {
                 self.domains[domain as usize] = Some(one.line);
             }

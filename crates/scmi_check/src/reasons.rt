@@ -2,7 +2,8 @@
 use crate::fields_text::{write_message_fields, write_reply_fields};
 use scmi_codec::{Answer, Message, Status};
 use scmi_judge::{Entry, Verdict};
-use scmi_text::write_message_text;
+use scmi_plan::{Effect, Report};
+use scmi_text::{PlainStep, Step, write_message_text};
 use std::io;
 use std::io::Write;
 
@@ -16,6 +17,7 @@ pub(crate) fn write_reasons<W: Write>(
         Verdict::Same => return Ok(()),
         Verdict::NoAgent => write!(writer, " expected no agent")?,
         Verdict::NoMessage => write!(writer, " expected no message")?,
+        Verdict::NoReport => write!(writer, " expected {}", wanted_of(entry))?,
         Verdict::Answer(due) => {
             write!(writer, " expected")?;
             write_answer(writer, due)?;
@@ -32,6 +34,28 @@ pub(crate) fn write_reasons<W: Write>(
         }
         Entry::Delivered { message, .. } => write_message(writer, message),
         Entry::Asked { .. } | Entry::GivenUp { .. } => write!(writer, " a command"),
+        Entry::Told { report } => {
+            write!(writer, " ")?;
+            write_report(writer, *report)
+        }
+    }
+}
+
+/// Writes what the hardware told, as the line of a record has it.
+pub(crate) fn write_report<W: Write>(writer: &mut W, report: Report) -> io::Result<()> {
+    write!(writer, "{}", PlainStep(&Step::Report { report }))
+}
+
+/// What an entry needs so that the platform can take what the hardware told.
+pub(crate) fn wanted_of(entry: &Entry) -> &'static str {
+    match entry {
+        Entry::Told { report } => match report {
+            Report::Changed(Effect::State { .. }) => "a power domain of the board, and ON or OFF",
+            Report::Changed(_) => "a clock of the board",
+            Report::First(_) => "the place of a pending set, counted from 0",
+            Report::Settled { .. } => "a free clock with a pending set",
+        },
+        _ => "no report",
     }
 }
 

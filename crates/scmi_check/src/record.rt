@@ -23,7 +23,8 @@ pub struct Record {
 /// The record that all lines that are left encode (own). A command is the line of a script that
 /// posts it, `do`, `raw` or `bad`; its answer, and a message of the platform, is the line of a run's
 /// output. Each may be an area of its channel instead, or a line of Linux's ftrace with its event
-/// `scmi_msg_dump`; other lines of a trace are skipped. The agents are those of the board, which has
+/// `scmi_msg_dump`; other lines of a trace are skipped. What the hardware told is the line `report`
+/// of a script. The agents are those of the board, which has
 /// this many.
 ///
 /// What can't be judged is noted: a command without an answer, a response in a trace that answers no

@@ -121,8 +121,10 @@ impl<W: Write> Listener for Report<'_, W> {
     }
 
     fn found(&mut self, one: &Judged, unless: Option<u32>) -> Result<(), CheckError> {
-        // A command that is answered later has its line with its answer.
+        // A command that is answered later has its line with its answer, and what the hardware told
+        // has none.
         if one.finding() == Finding::Same && !one.entry.is_from_platform() {
+            self.sets.add(one);
             return Ok(());
         }
         match self.write_entry(one, unless) {

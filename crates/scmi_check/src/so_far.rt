@@ -66,6 +66,7 @@ impl<'a> SoFar<'a> {
             Shown::Got { agent, answer } => self.answer(line, agent, answer),
             Shown::Responded { agent, message } => self.respond(line, agent, message),
             Shown::Took { agent, message } => self.push(line, Entry::Delivered { agent, message }),
+            Shown::Told { report } => self.push(line, Entry::Told { report }),
             Shown::Missed { lost } => self.miss(line, lost),
             Shown::Skipped => Ok(()),
         }
@@ -347,6 +348,6 @@ fn entry_protocol(entry: &Entry) -> Option<u8>
         Entry::Answered { frame, .. } | Entry::Asked { frame, .. } | Entry::Replied { frame, .. } =>
             frame_protocol(frame),
         Entry::Delivered { message, .. } => Some(message.header.protocol()),
-        Entry::GivenUp { .. } => None,
+        Entry::GivenUp { .. } | Entry::Told { .. } => None,
     }
 }

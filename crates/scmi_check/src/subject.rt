@@ -1,9 +1,10 @@
 //! The power domain or clock that an entry is about.
+use crate::judged::Judged;
 use scmi_codec::{
     Command, DELAYED_RESPONSE, Frame, Message, NOTIFICATION, POWER_PROTOCOL, Part, listed_row,
 };
-use scmi_judge::{Entry, has_succeeded, sets_value};
-use scmi_plan::Resource;
+use scmi_judge::{Entry, Verdict, has_succeeded, sets_value};
+use scmi_plan::{Effect, Report, Resource};
 
 /// The message id of the notification POWER_STATE_CHANGED, which no table has.
 const POWER_STATE_CHANGED: u8 = 0x0;
@@ -23,13 +24,24 @@ pub(crate) fn subject_of(entry: &Entry) -> Option<Resource> {
         Entry::Answered { .. }
         | Entry::Replied { .. }
         | Entry::Asked { .. }
-        | Entry::GivenUp { .. } => None,
+        | Entry::GivenUp { .. }
+        | Entry::Told { .. } => None,
         Entry::Delivered { message, .. } => message_subject(message),
     }
 }
 
+/// The power domain or clock that has another value by an entry: that of a set which was answered by
+/// SUCCESS, or the one of which the hardware told.
+pub(crate) fn changed_by(one: &Judged) -> Option<Resource> {
+    match (&one.entry, &one.verdict) {
+        (Entry::Told { report }, Verdict::Same) => told_subject(*report),
+        (entry, _) if is_set(entry) => subject_of(entry),
+        _ => None,
+    }
+}
+
 /// Whether an entry is a set that was answered by SUCCESS.
-pub(crate) fn is_set(entry: &Entry) -> bool {
+fn is_set(entry: &Entry) -> bool {
     match entry {
         Entry::Answered {
             frame: Frame::Good(command),
@@ -42,6 +54,18 @@ pub(crate) fn is_set(entry: &Entry) -> bool {
             ..
         } => sets_value(&Command::read(command)) && has_succeeded(answer),
         _ => false,
+    }
+}
+
+/// The domain or clock that has another value by what the hardware told.
+fn told_subject(report: Report) -> Option<Resource> {
+    match report {
+        Report::Changed(Effect::State { domain, .. }) => Some(Resource::Domain(domain)),
+        Report::Changed(Effect::Rate { clock, .. } | Effect::Enabled { clock, .. }) => {
+            Some(Resource::Clock(clock))
+        }
+        Report::Settled { clock, .. } => Some(Resource::Clock(clock)),
+        Report::First(_) => None,
     }
 }
 

@@ -1,5 +1,5 @@
 use Rattle.std.proofs.Common.{refl}
-use Rattle.scmi_judge.proofs.Guessing.{gives-told, untaken-report}
+use Rattle.scmi_judge.proofs.Guessing.{gives-told}
 use Rattle.scmi_judge.proofs.guess.Guess.take_over.Goals as goal
 
 pub returns-clause-gives : goal.returns-clause-gives
