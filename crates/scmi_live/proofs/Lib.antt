@@ -1,5 +1,6 @@
 mod ItemLists
 mod MeantExamples
+mod TwoItems
 mod NameLists
 mod Joined
 mod Numbers
