@@ -22,6 +22,8 @@
 #include "scmi_service_board.h"
 #include "scmi_trace.h"
 
+#pragma weak scmi_service_finish
+#pragma weak scmi_service_rate
 #pragma weak scmi_service_outbox
 #pragma weak scmi_service_look
 #pragma weak scmi_service_other
@@ -182,26 +184,41 @@ static APART uint32_t make(unsigned int agent)
     return given == SCMI_DONE;
 }
 
+/* Whether a change gave a clock another rate than it was to, and which. */
+static bool made_another_rate(unsigned int agent, const scmi_effect *effect, uint64_t *rate)
+{
+    return effect->kind == SCMI_EFFECT_RATE && scmi_service_rate(agent, effect->id, rate) &&
+           *rate != ((uint64_t)effect->high << 32 | effect->low);
+}
+
+/* The hardware has made the change of a command. */
+static uint32_t commit(unsigned int agent, const scmi_effect *effect)
+{
+    scmi_platform *platform = &service_of(agent)->platform;
+    uint64_t rate = 0;
+
+    if (!made_another_rate(agent, effect, &rate))
+        return scmi_commit_words(platform, copy.reply, SCMI_MESSAGE_WORDS, &copy.given);
+    return scmi_commit_rate_words(platform, copy.reply, SCMI_MESSAGE_WORDS, &copy.given, (uint32_t)rate,
+                                  (uint32_t)(rate >> 32));
+}
+
 /*
- * Makes a change of the hardware that was asked for, and has the library commit to it, or refuse it with the status of
- * the hardware. A number that is none, or says nothing of hardware, is HARDWARE_ERROR.
+ * Makes the change of a command, and has the library commit to it, or refuse it with the status of the hardware. A
+ * number that is none, or says nothing of hardware, is HARDWARE_ERROR.
  */
-static void drive(unsigned int agent, const scmi_effect *effect, bool is_pending)
+static void drive(unsigned int agent, const scmi_effect *effect)
 {
     scmi_platform *platform = &service_of(agent)->platform;
     int32_t status = scmi_service_drive(agent, effect);
     uint32_t given;
 
-    if (is_pending)
-        given = status == SCMI_SUCCESS ? scmi_advance(platform) : scmi_refuse_advance(platform, status);
-    else
-        given = status == SCMI_SUCCESS
-                    ? scmi_commit_words(platform, copy.reply, SCMI_MESSAGE_WORDS, &copy.given)
-                    : scmi_refuse_words(platform, copy.reply, SCMI_MESSAGE_WORDS, &copy.given, status);
+    given = status == SCMI_SUCCESS
+                ? commit(agent, effect)
+                : scmi_refuse_words(platform, copy.reply, SCMI_MESSAGE_WORDS, &copy.given, status);
     if (given == SCMI_WRONG_STATUS) {
         INFO("SCMI: agent %u: %d of the hardware is answered as HARDWARE_ERROR\n", agent, status);
-        is_pending ? scmi_fail_advance(platform)
-                   : scmi_fail_words(platform, copy.reply, SCMI_MESSAGE_WORDS, &copy.given);
+        scmi_fail_words(platform, copy.reply, SCMI_MESSAGE_WORDS, &copy.given);
     }
     if (SCMI_PORT_TRACE)
         scmi_trace_change(agent, platform, effect, status == SCMI_SUCCESS);
@@ -218,7 +235,7 @@ static void execute(unsigned int agent)
     switch (scmi_ask_words(platform, scmi_service_number(agent), copy.message, copy.count, copy.reply,
                            SCMI_MESSAGE_WORDS, &copy.given, &effect)) {
     case SCMI_EFFECT:
-        drive(agent, &effect, false);
+        drive(agent, &effect);
         break;
     case SCMI_OTHER:
         copy.reply[0] = copy.message[0];
@@ -247,14 +264,64 @@ static IN_ONE_PIECE uint32_t serve(unsigned int agent)
     return (flags & WANTS_INTERRUPT) != 0;
 }
 
-/* The first pending set of a platform completes, if the hardware makes it. */
+/* Before a set ends: the rate that it gives a free clock. Other clocks have it as it was asked for. */
+static bool settles(scmi_platform *platform, uint32_t clock, uint64_t rate)
+{
+    return scmi_settled(platform, clock, (uint32_t)rate, (uint32_t)(rate >> 32)) == SCMI_DONE;
+}
+
+/* After it: the rate at which another clock runs. */
+static void report_rate(scmi_platform *platform, uint32_t clock, uint64_t rate)
+{
+    uint32_t enabled;
+
+    if (scmi_clock_enabled(platform, clock, &enabled) == SCMI_DONE)
+        scmi_clock_is(platform, clock, (uint32_t)rate, (uint32_t)(rate >> 32), enabled);
+}
+
+/* The hardware has made the change of the pending set at a place. */
+static void end_made(unsigned int agent, uint32_t place, const scmi_effect *effect)
+{
+    scmi_platform *platform = &service_of(agent)->platform;
+    uint64_t rate = 0;
+    bool is_another = made_another_rate(agent, effect, &rate);
+    bool is_settled = is_another && settles(platform, effect->id, rate);
+
+    place == 0 ? scmi_advance(platform) : scmi_advance_at(platform, place);
+    if (is_another && !is_settled)
+        report_rate(platform, effect->id, rate);
+}
+
+/* The hardware has refused it. No call of the library ends a set by a status before others: those are HARDWARE_ERROR. */
+static void end_refused(unsigned int agent, uint32_t place, int32_t status)
+{
+    scmi_platform *platform = &service_of(agent)->platform;
+    uint32_t given = place > 0 ? SCMI_WRONG_STATUS : scmi_refuse_advance(platform, status);
+
+    if (given == SCMI_WRONG_STATUS) {
+        INFO("SCMI: agent %u: %d of the hardware is told as HARDWARE_ERROR\n", agent, status);
+        place == 0 ? scmi_fail_advance(platform) : scmi_fail_advance_at(platform, place);
+    }
+}
+
+/* Of a platform's pending sets the first ends with which the hardware is done. The others wait, in their order. */
 static void complete(unsigned int at)
 {
+    scmi_platform *platform = &services[at].platform;
+    int32_t status = SCMI_SUCCESS;
     scmi_effect effect;
-    uint32_t number;
+    uint32_t number, place;
 
-    if (scmi_pending(&services[at].platform, 0, &number, &effect) == SCMI_DONE)
-        drive(SCMI_PORT_SHARED ? number - 1 : at, &effect, true);
+    for (place = 0; scmi_pending(platform, place, &number, &effect) == SCMI_DONE; place++) {
+        unsigned int agent = SCMI_PORT_SHARED ? number - 1 : at;
+
+        if (!scmi_service_finish(agent, &effect, &status))
+            continue;
+        status == SCMI_SUCCESS ? end_made(agent, place, &effect) : end_refused(agent, place, status);
+        if (SCMI_PORT_TRACE)
+            scmi_trace_change(agent, platform, &effect, status == SCMI_SUCCESS);
+        return;
+    }
 }
 
 /* Whether a message was posted to an agent. */
@@ -362,6 +429,19 @@ uint32_t scmi_service_poll(void)
 void scmi_service_restart(unsigned int agent_id)
 {
     enter(restart, agent_id);
+}
+
+/* Of hardware that makes each change at once. */
+APART bool scmi_service_finish(unsigned int agent_id, const scmi_effect *effect, int32_t *status)
+{
+    *status = scmi_service_drive(agent_id, effect);
+    return true;
+}
+
+/* Of clocks that run at each rate that they are given. */
+APART bool scmi_service_rate(unsigned int agent_id __unused, uint32_t clock __unused, uint64_t *rate __unused)
+{
+    return false;
 }
 
 /* Of hardware that changes nothing by itself. */

@@ -24,9 +24,9 @@ void scmi_service_restart(unsigned int agent_id);
 bool scmi_service_serve(unsigned int agent_id);
 
 /*
- * For agents with a channel back (scmi_service_outbox), from a timer or an idle loop: completes the first pending set
- * on the hardware, and posts the first message of each such agent, if its channel is free. The agents to which one was
- * posted, agent N as bit N: ring their doorbells.
+ * For agents with a channel back (scmi_service_outbox), from a timer or an idle loop: ends the first pending set of each
+ * platform with which the hardware is done (scmi_service_finish), and posts the first message of each such agent, if
+ * its channel is free. The agents to which one was posted, agent N as bit N: ring their doorbells.
  */
 uint32_t scmi_service_poll(void);
 

@@ -71,6 +71,21 @@ bool scmi_service_start(unsigned int agent_id, scmi_platform *platform);
 int32_t scmi_service_drive(unsigned int agent_id, const scmi_effect *effect);
 
 /*
+ * For scmi_service_poll: how far the hardware is with the change of a set that is pending. False if it is not done: then
+ * it is asked again at each poll, of each such set in turn, so the first call may begin the change. True if it is done,
+ * and `status` is as scmi_service_drive would give it; then the set ends, before those that are not done. Without this
+ * call it is scmi_service_drive, which makes the change at once.
+ */
+bool scmi_service_finish(unsigned int agent_id, const scmi_effect *effect, int32_t *status);
+
+/*
+ * For hardware that rounds: the rate in Hz at which a clock runs, once a rate was set. It is what agents read, and what
+ * a delayed response says of a clock that the board frees (`.free = 1`). False if it is the rate that
+ * scmi_service_drive was given, as without this call.
+ */
+bool scmi_service_rate(unsigned int agent_id, uint32_t clock, uint64_t *rate);
+
+/*
  * Before a message of an agent is executed, by its header and the first word of its payload, 0 if it has none: what the
  * hardware has changed by itself of what the message is about is reported here, by scmi_clock_is and scmi_domain_is.
  * Without this call the hardware changes nothing by itself.

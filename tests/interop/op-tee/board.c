@@ -12,7 +12,9 @@
 enum { SET_DEVICE_PERMISSIONS = 0x04009, BOTH = 0, DENY = 0 };
 
 bool has_board = true, starts = true, makes = true, is_one_way = true, has_outbox, is_mapped = true, has_areas = true;
+bool is_done = true;
 unsigned int drives;
+uint32_t made;
 int32_t refusal = SCMI_DENIED;
 struct change last;
 uint32_t areas[AGENTS][LINUX_BYTES / 4], outbox[LINUX_BYTES / 4];
@@ -80,4 +82,17 @@ int32_t scmi_service_drive(unsigned int agent __unused, const scmi_effect *effec
     drives++;
     last = (struct change){ effect->kind, effect->id, effect->low, effect->high };
     return is_locked && makes ? SCMI_SUCCESS : refusal;
+}
+
+bool scmi_service_finish(unsigned int agent, const scmi_effect *effect, int32_t *status)
+{
+    if (is_done)
+        *status = scmi_service_drive(agent, effect);
+    return is_done;
+}
+
+bool scmi_service_rate(unsigned int agent __unused, uint32_t clock __unused, uint64_t *rate)
+{
+    *rate = made;
+    return made != 0;
 }

@@ -33,6 +33,9 @@ struct change {
 };
 extern bool has_board, starts, makes, is_one_way, has_outbox, is_mapped, has_areas;
 extern unsigned int drives;
+/* Whether it is done with a pending set, and the rate that it makes of each, if it is not 0. */
+extern bool is_done;
+extern uint32_t made;
 /* The status of hardware that refuses. */
 extern int32_t refusal;
 extern struct change last;

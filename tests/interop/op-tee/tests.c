@@ -447,6 +447,7 @@ static void a_way_back(void)
 {
     static const struct words later = { 5, { 0x5005, 1, 0, 1500000000, 0 } }, rate = { 2, { 0x5006, 0 } };
     static const struct words told = { 5, { 0x5205, 0, 0, 1500000000, 0 } };
+    unsigned int before;
 
     is_one_way = false;
     has_outbox = true;
@@ -457,6 +458,15 @@ static void a_way_back(void)
     check_word("a poll says whom to interrupt", scmi_service_poll(), 1 << LINUX);
     check_word("  it is made", answer_of(LINUX, &rate, 2), 1500000000);
     check_true("  and the agent is told", outbox[STATUS] == BUSY && outbox[LENGTH] == 20 && are(outbox + HEADER, &told));
+    outbox[STATUS] = FREE;
+    before = drives;
+    is_done = false;
+    check_word("a set with which the hardware is not done", answer_of(LINUX, &later, 1), 0);
+    check_true("  waits", scmi_service_poll() == 0 && outbox[STATUS] == FREE && drives == before);
+    is_done = true;
+    made = 1499000000;
+    check_word("  and ends when it is", scmi_service_poll(), 1 << LINUX);
+    check_word("  with the rate that it made", answer_of(LINUX, &rate, 2), 1499000000);
 }
 
 static void a_restart(void)

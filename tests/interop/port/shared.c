@@ -18,13 +18,17 @@
 
 enum { STATUS = 1, FLAGS = 4, LENGTH = 5, HEADER = 6, PAYLOAD = 7, AREA_BYTES = 128 };
 /* Headers without a token. */
-enum { VERSION = 0x4000, STATE_SET = 0x4404, STATE_NOTIFY = 0x4406, RATE_SET = 0x5005, RATE_GET = 0x5006,
-       CONFIG_SET = 0x5007, LIST_PROTOCOLS = 0x4006, DISCOVER_AGENT = 0x4007, SET_DEVICE_PERMISSIONS = 0x4009, RATE_SET_COMPLETE = 0x5205,
+enum { VERSION = 0x4000, STATE_SET = 0x4404, STATE_NOTIFY = 0x4406, ATTRIBUTES = 0x5003, RATE_SET = 0x5005,
+       RATE_GET = 0x5006, CONFIG_SET = 0x5007, LIST_PROTOCOLS = 0x4006, DISCOVER_AGENT = 0x4007, SET_DEVICE_PERMISSIONS = 0x4009, RATE_SET_COMPLETE = 0x5205,
        STATE_CHANGED = 0x4700 };
 /* Of the board's own protocol, 0x80: a sum, and a reply of more words than the channels have. */
 enum { OWN_SUM = 0x20003, OWN_LONG = 0x20004 };
 /* The first word of the second agent's name. */
 enum { REMOTE_NAME = 0x6f6d6572 };
+/* The clocks: the library rounds the rates of the first, and the hardware those of the second. */
+enum { BUS = 0, CORE = 1 };
+/* How many changes bring the hardware up: two states, two rates and two bits. */
+enum { BRING_UP = 6 };
 enum { ON = 0, OFF = 0x40000000, ASYNCHRONOUS = 1, BUSY = 0, FREE = 1, CHANNEL_ERROR = 3, NO_ANSWER = 2 };
 /* The agents, and the areas: their commands, and the messages to the second. */
 enum { LOCAL = 0, REMOTE = 1, MESSAGES = 2 };
@@ -38,14 +42,15 @@ static const scmi_board_domain domains[] = { { .name = "gpu", .synchronous = 1, 
                                              { .name = "dsp", .on = 1, .synchronous = 1 } };
 static const scmi_board_clock clocks[] = {
     { .name = "bus", .rate = 200, .first = 0, .count = 3, .enabled = 1, .kept = 1 },
+    { .name = "core", .rate = 500, .first = 3, .count = 2, .free = 1 },
 };
-static const uint64_t rates[] = { 100, 200, 300 };
+static const uint64_t rates[] = { 100, 200, 300, 500, 0x100000000 };
 static const scmi_board_device devices[] = { { .domains = 1 << 1 } };
 static const scmi_board board = {
     .heading = { .vendor = "Acme", .sub_vendor = "Lab", .trusted = SCMI_SERVICE_FIRMWARE,
                  .protocols = { 0x11, 0x14, 0x80 } },
     .agents = agents, .agent_count = SCMI_SERVICE_FIRMWARE, .domains = domains, .domain_count = 2, .clocks = clocks,
-    .clock_count = 1, .rates = rates, .rate_count = 3, .devices = devices, .device_count = 1,
+    .clock_count = 2, .rates = rates, .rate_count = 5, .devices = devices, .device_count = 1,
 };
 
 static uint32_t areas[3][AREA_BYTES / 4];
@@ -53,8 +58,12 @@ static struct scmi_msg_channel channels[3];
 static const struct scmi_msg_channel *outbox = &channels[MESSAGES];
 static bool has_board, starts, makes;
 static unsigned int boards, drives;
-/* What the hardware was told: each state, the rate and the bit. */
+/* What the hardware was told: each state, and of the first clock the rate and the bit. */
 static uint32_t states[2], rate, enabled;
+/* The second clock's rate, what the hardware makes of a rate if it is not 0, and what it is not done with (mask). */
+static uint64_t core_rate, made;
+static uint32_t slow;
+static unsigned int finishes;
 
 struct scmi_msg_channel *plat_scmi_get_channel(unsigned int agent)
 {
@@ -99,11 +108,30 @@ int32_t scmi_service_drive(unsigned int agent, const scmi_effect *effect)
         return SCMI_DENIED;
     if (effect->kind == SCMI_EFFECT_STATE)
         states[effect->id] = effect->low;
+    else if (effect->kind == SCMI_EFFECT_RATE && effect->id == CORE)
+        core_rate = (uint64_t)effect->high << 32 | effect->low;
     else if (effect->kind == SCMI_EFFECT_RATE)
         rate = effect->low;
-    else
+    else if (effect->id == BUS)
         enabled = effect->low;
     return SCMI_SUCCESS;
+}
+
+/* Bit N of `slow` is for clock N. */
+bool scmi_service_finish(unsigned int agent, const scmi_effect *effect, int32_t *status)
+{
+    finishes++;
+    if (effect->kind == SCMI_EFFECT_RATE && (slow >> effect->id & 1))
+        return false;
+    *status = scmi_service_drive(agent, effect);
+    return true;
+}
+
+bool scmi_service_rate(unsigned int agent, uint32_t clock, uint64_t *is)
+{
+    (void)agent, (void)clock;
+    *is = made;
+    return made != 0;
 }
 
 /* ---- The platform that a test begins with, and its agents. */
@@ -152,7 +180,19 @@ static int32_t set_rate(unsigned int agent, uint32_t flags, uint32_t to)
 
 static uint32_t rate_of(unsigned int agent)
 {
-    return ask(agent, RATE_GET, 1, (uint32_t[]){ 0 }) == 0 ? areas[agent][PAYLOAD + 1] : 0;
+    return ask(agent, RATE_GET, 1, (uint32_t[]){ BUS }) == 0 ? areas[agent][PAYLOAD + 1] : 0;
+}
+
+static int32_t set_core(unsigned int agent, uint32_t flags, uint64_t to)
+{
+    return ask(agent, RATE_SET, 4, (uint32_t[]){ flags, CORE, (uint32_t)to, (uint32_t)(to >> 32) });
+}
+
+static uint64_t core_rate_of(unsigned int agent)
+{
+    const uint32_t *words = areas[agent] + PAYLOAD;
+
+    return ask(agent, RATE_GET, 1, (uint32_t[]){ CORE }) == 0 ? (uint64_t)words[2] << 32 | words[1] : 0;
 }
 
 static int32_t set_state(unsigned int agent, uint32_t domain, uint32_t to)
@@ -170,16 +210,40 @@ static bool has(uint32_t kind, uint32_t word)
 
 static void read_message(void) { areas[MESSAGES][STATUS] = FREE; }
 
+/* Whether a poll posts this one message, that a set ended: its clock and rate. It is then read. */
+static bool is_told(uint32_t clock, uint64_t to)
+{
+    const uint32_t *words = areas[MESSAGES] + PAYLOAD;
+    bool is = scmi_service_poll() == 1 << REMOTE && has(RATE_SET_COMPLETE, 0) && areas[MESSAGES][LENGTH] == 20 &&
+              words[1] == clock && ((uint64_t)words[3] << 32 | words[2]) == to;
+
+    read_message();
+    return is;
+}
+
+/* The same with a status that is none of success, which has no more words. */
+static bool is_refused(int32_t status)
+{
+    bool is = scmi_service_poll() == 1 << REMOTE && has(RATE_SET_COMPLETE, (uint32_t)status) &&
+              areas[MESSAGES][LENGTH] == 8;
+
+    read_message();
+    return is;
+}
+
+static bool nothing_is_told(void) { return scmi_service_poll() == 0 && areas[MESSAGES][STATUS] == FREE; }
+
 /* ---- Tests. */
 
 static void the_hardware_is_brought_up(void)
 {
     init();
     check("not by the channels", drives == 0 && boards == 0);
-    check("when the platform is made", scmi_service_make(LOCAL) && drives == 4);
-    check("to its values", states[0] == OFF && states[1] == ON && rate == 200 && enabled == 1);
+    check("when the platform is made", scmi_service_make(LOCAL) && drives == BRING_UP);
+    check("to its values", states[0] == OFF && states[1] == ON && rate == 200 && enabled == 1 &&
+                            core_rate == 500);
     check("once, for both", scmi_service_make(REMOTE) && version(LOCAL) == 0 && version(REMOTE) == 0 && boards == 1 &&
-                                drives == 4);
+                                drives == BRING_UP);
     check("of no other agent", !scmi_service_make(2));
 }
 
@@ -281,7 +345,7 @@ static void a_protocol_of_the_boards_own_is_answered_by_its_file(void)
                            area[LENGTH] == 16 && area[PAYLOAD + 1] == REMOTE && area[PAYLOAD + 2] == 11);
     check("a channel error for more than there is room for", ask(REMOTE, OWN_LONG, 0, NULL) == 1);
     check("one that is not listed", ask(REMOTE, OWN_SUM + (1 << 10), 0, NULL) == SCMI_NOT_SUPPORTED);
-    check("which the hardware is not asked for", drives == 4 && version(LOCAL) == 0);
+    check("which the hardware is not asked for", drives == BRING_UP && version(LOCAL) == 0);
 }
 
 static void what_the_board_keeps_is_not_switched_off(void)
@@ -289,8 +353,8 @@ static void what_the_board_keeps_is_not_switched_off(void)
     init();
     check("by no agent", ask(LOCAL, CONFIG_SET, 2, (uint32_t[]){ 0, 0 }) == SCMI_DENIED &&
                              ask(REMOTE, CONFIG_SET, 2, (uint32_t[]){ 0, 0 }) == SCMI_DENIED);
-    check("which the hardware is not asked for", drives == 4 && enabled == 1);
-    check("its rate is set", set_rate(LOCAL, 0, 300) == 0 && rate == 300 && drives == 5);
+    check("which the hardware is not asked for", drives == BRING_UP && enabled == 1);
+    check("its rate is set", set_rate(LOCAL, 0, 300) == 0 && rate == 300 && drives == BRING_UP + 1);
 }
 
 static void an_interrupt_is_wanted_or_not(void)
@@ -332,6 +396,82 @@ static void a_set_that_the_hardware_refuses_is_told_so(void)
     makes = false;
     check("told", scmi_service_poll() == 1 << REMOTE && has(RATE_SET_COMPLETE, (uint32_t)SCMI_DENIED));
     check("and not made", rate_of(LOCAL) == 200 && rate == 200);
+}
+
+static void the_hardware_may_finish_another_set_first(void)
+{
+    init();
+    slow = 1 << BUS;
+    check("two are taken", set_rate(REMOTE, ASYNCHRONOUS, 100) == 0 && set_core(REMOTE, ASYNCHRONOUS, 500) == 0);
+    check("the second ends", is_told(CORE, 500) && finishes == 2 && core_rate == 500);
+    check("the first waits", nothing_is_told() && finishes == 3 && rate == 200 && rate_of(LOCAL) == 200);
+    check("and is asked about at each poll", nothing_is_told() && finishes == 4);
+    check("so its clock is not set", set_rate(LOCAL, 0, 300) == SCMI_BUSY && drives == BRING_UP + 1);
+    check("and the other's is", set_core(LOCAL, 0, 600) == 0 && core_rate == 600);
+    slow = 0;
+    check("the first ends", is_told(BUS, 100) && rate == 100 && rate_of(LOCAL) == 100);
+    check("and no more is asked", nothing_is_told() && finishes == 5);
+}
+
+static void a_poll_ends_one_set(void)
+{
+    init();
+    check("two are taken", set_rate(REMOTE, ASYNCHRONOUS, 100) == 0 && set_core(REMOTE, ASYNCHRONOUS, 600) == 0);
+    check("the first ends", is_told(BUS, 100) && finishes == 1 && core_rate == 500);
+    check("the second waits for the next", is_told(CORE, 600) && finishes == 2);
+    check("of each there was one change", drives == BRING_UP + 2);
+}
+
+static void a_set_is_refused_before_the_others(void)
+{
+    init();
+    slow = 1 << BUS;
+    check("two are taken", set_rate(REMOTE, ASYNCHRONOUS, 100) == 0 && set_core(REMOTE, ASYNCHRONOUS, 600) == 0);
+    makes = false;
+    check("the second is refused", is_refused(SCMI_HARDWARE_ERROR) && core_rate_of(LOCAL) == 500);
+    check("the first waits", nothing_is_told() && rate_of(LOCAL) == 200);
+    slow = 0;
+    check("and is refused by its status", is_refused(SCMI_DENIED) && rate_of(LOCAL) == 200);
+    makes = true;
+    check("the next are made", set_rate(REMOTE, ASYNCHRONOUS, 100) == 0 && is_told(BUS, 100));
+}
+
+static void the_rate_that_the_hardware_made_is_told(void)
+{
+    init();
+    made = 0x100000001;
+    check("a set is taken", set_core(REMOTE, ASYNCHRONOUS, 600) == 0);
+    check("its rate is not yet the hardware's", core_rate_of(LOCAL) == 500);
+    check("it is told with its rate", is_told(CORE, made) && core_rate == 600);
+    check("which is read", core_rate_of(LOCAL) == made && core_rate_of(REMOTE) == made);
+    made = 700;
+    check("that of another command is read", set_core(LOCAL, 0, 800) == 0 && core_rate == 800);
+    check("as it was made", core_rate_of(REMOTE) == 700);
+    made = 900;
+    check("and if it is what was asked for", set_core(LOCAL, 0, 900) == 0 && core_rate_of(REMOTE) == 900);
+}
+
+static void the_rate_of_a_set_that_ends_before_the_others_is_told(void)
+{
+    init();
+    slow = 1 << BUS;
+    made = 640;
+    check("two are taken", set_rate(REMOTE, ASYNCHRONOUS, 100) == 0 && set_core(REMOTE, ASYNCHRONOUS, 600) == 0);
+    check("the second ends with its rate", is_told(CORE, 640) && core_rate_of(LOCAL) == 640);
+    made = slow = 0;
+    check("the first with its own", is_told(BUS, 100));
+}
+
+static void the_rate_of_a_clock_that_the_library_rounds_is_read(void)
+{
+    init();
+    made = 99;
+    check("a set is taken", set_rate(REMOTE, ASYNCHRONOUS, 150) == 0);
+    check("and told as it was rounded", is_told(BUS, 100) && rate == 100);
+    check("what the hardware made is read", rate_of(LOCAL) == 99);
+    made = 201;
+    check("so it is of a command", set_rate(LOCAL, 0, 200) == 0 && rate == 200 && rate_of(REMOTE) == 201);
+    check("which stays on", ask(LOCAL, ATTRIBUTES, 1, (uint32_t[]){ BUS }) == 0 && areas[LOCAL][PAYLOAD + 1] == 1);
 }
 
 static void a_restart_leaves_nothing_that_was_asked_for(void)
@@ -388,6 +528,13 @@ static const struct test tests[] = {
     { "an interrupt is wanted or not", an_interrupt_is_wanted_or_not, 0 },
     { "sets complete when the service polls", sets_complete_when_the_service_polls, 0 },
     { "a set that the hardware refuses is told so", a_set_that_the_hardware_refuses_is_told_so, 0 },
+    { "the hardware may finish another set first", the_hardware_may_finish_another_set_first, 0 },
+    { "a poll ends one set", a_poll_ends_one_set, 0 },
+    { "a set is refused before the others", a_set_is_refused_before_the_others, 0 },
+    { "the rate that the hardware made is told", the_rate_that_the_hardware_made_is_told, 0 },
+    { "the rate of a set that ends before the others is told",
+      the_rate_of_a_set_that_ends_before_the_others_is_told, 0 },
+    { "the rate of a clock that the library rounds is read", the_rate_of_a_clock_that_the_library_rounds_is_read, 0 },
     { "a restart leaves nothing that was asked for", a_restart_leaves_nothing_that_was_asked_for, 0 },
     { "a restart is of one agent", a_restart_is_of_one_agent, 0 },
     { "the stack is counted", the_stack_is_counted, 0 },
