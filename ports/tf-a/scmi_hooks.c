@@ -37,16 +37,14 @@ static struct {
 } tables;
 static scmi_board board;
 
-/* A name as the library takes it: 1 to 15 bytes, none of them a blank. */
+/* A name as the library takes it on a loose board: up to 15 bytes, each of which can be printed. */
 static void give_name(char to[SCMI_NAME_ROOM], const char *what, const char *name)
 {
     size_t i;
 
     memset(to, 0, SCMI_NAME_ROOM);
     for (i = 0; i < SCMI_NAME_ROOM - 1 && name[i] != '\0'; i++)
-        to[i] = name[i] > ' ' && name[i] <= '~' ? name[i] : '_';
-    if (i == 0)
-        to[0] = '-';
+        to[i] = name[i] >= ' ' && name[i] <= '~' ? name[i] : '_';
     if (strncmp(to, name, SCMI_NAME_ROOM) != 0)
         WARN("SCMI: %s \"%s\" is named \"%s\"\n", what, name, to);
 }
@@ -74,7 +72,7 @@ static void add_domain(unsigned int agent, uint32_t id)
 
     domain->synchronous = 1;
     domain->absent = name == NULL;
-    give_name(domain->name, "domain", name != NULL ? name : "-");
+    give_name(domain->name, "domain", name != NULL ? name : "");
     if (domain->absent)
         return;
     state = plat_scmi_pd_get_state(agent, id);
@@ -121,12 +119,11 @@ static int32_t put_list(unsigned int agent, uint32_t id, scmi_board_clock *clock
     return status;
 }
 
-/* Rates by steps: the highest is one that steps reach, and the clock starts at one of them. */
+/* Rates by steps: the highest is one that steps reach. */
 static int32_t take_steps(unsigned int agent, uint32_t id, scmi_board_clock *clock)
 {
     unsigned long steps[3] = { 0 };
     int32_t status = plat_scmi_clock_rates_by_step(agent, id, steps);
-    uint64_t rate = clock->rate;
 
     if (status != SCMI_SUCCESS)
         return status;
@@ -137,26 +134,10 @@ static int32_t take_steps(unsigned int agent, uint32_t id, scmi_board_clock *clo
     clock->high = steps[1] - (steps[1] - steps[0]) % steps[2];
     if (clock->high != steps[1])
         WARN("SCMI: clock \"%s\" does not reach %lu Hz in its steps\n", clock->name, steps[1]);
-    if (rate < clock->low || rate > clock->high)
-        rate = rate < clock->low ? clock->low : clock->high;
-    clock->rate = rate - (rate - clock->low) % clock->step;
     return SCMI_SUCCESS;
 }
 
-static bool has_rate(const scmi_board_clock *clock)
-{
-    uint32_t at;
-
-    for (at = 0; at < clock->count; at++)
-        if (tables.rates[clock->first + at] == clock->rate)
-            return true;
-    return false;
-}
-
-/*
- * A clock without rates, or with half of its list, has the one that it is at. False if there is no room for that. A board
- * starts at one of its rates: a clock that is at another is at the lowest, until the first look at it.
- */
+/* A clock without rates, or with half of its list, has the one that it is at. False if there is no room for that. */
 static bool add_rates(unsigned int agent, uint32_t id, scmi_board_clock *clock)
 {
     int32_t status = put_list(agent, id, clock);
@@ -169,8 +150,6 @@ static bool add_rates(unsigned int agent, uint32_t id, scmi_board_clock *clock)
              (unsigned long)clock->rate);
         return put_rate(clock, clock->rate);
     }
-    if (!has_rate(clock))
-        clock->rate = tables.rates[clock->first];
     return true;
 }
 
@@ -185,7 +164,7 @@ static bool add_clock(unsigned int agent, uint32_t id)
 
     clock->first = (uint32_t)board.rate_count;
     clock->absent = name == NULL;
-    give_name(clock->name, "clock", name != NULL ? name : "-");
+    give_name(clock->name, "clock", name != NULL ? name : "");
     if (clock->absent) {
         clock->step = 1;
         return true;
@@ -230,14 +209,15 @@ static void add_protocols(unsigned int agent)
     }
 }
 
-static void add_agents(const struct scmi_msg_channel *channel)
+/* An agent with a channel back may set clocks asynchronously; TF-A's interface has none, but the platform may. */
+static void add_agents(unsigned int agent_id, const struct scmi_msg_channel *channel)
 {
     scmi_board_agent *agent = &tables.agents[SCMI_SERVICE_AGENT - 1];
 
     give_name(agent->name, "agent", channel->agent_name != NULL ? channel->agent_name : "agent");
     if (channel->shm_size < SCMI_AREA_BYTES)
         agent->bytes = (uint32_t)channel->shm_size & ~3U;
-    agent->one_way = 1;
+    agent->one_way = scmi_service_outbox(agent_id) == NULL;
     give_name(tables.agents[SCMI_SERVICE_FIRMWARE - 1].name, "agent", "firmware");
     tables.agents[SCMI_SERVICE_FIRMWARE - 1].one_way = 1;
 }
@@ -247,13 +227,13 @@ const scmi_board *scmi_service_board(unsigned int agent_id, const struct scmi_ms
     uint32_t id;
 
     memset(&tables, 0, sizeof(tables));
-    board = (scmi_board){ .heading = { .trusted = SCMI_SERVICE_FIRMWARE }, .agents = tables.agents,
+    board = (scmi_board){ .heading = { .trusted = SCMI_SERVICE_FIRMWARE, .loose = 1 }, .agents = tables.agents,
                           .agent_count = SCMI_SERVICE_FIRMWARE, .domains = tables.domains, .clocks = tables.clocks,
                           .rates = tables.rates };
     give_name(board.heading.vendor, "vendor", plat_scmi_vendor_name());
     give_name(board.heading.sub_vendor, "sub-vendor", plat_scmi_sub_vendor_name());
     add_protocols(agent_id);
-    add_agents(channel);
+    add_agents(agent_id, channel);
     board.domain_count = served(agent_id, "domain", plat_scmi_pd_count(agent_id), SCMI_PORT_DOMAINS,
                                 plat_scmi_pd_get_name);
     for (id = 0; id < board.domain_count; id++)
@@ -287,6 +267,13 @@ int32_t scmi_service_drive(unsigned int agent_id, const scmi_effect *effect)
     default:
         return plat_scmi_clock_set_state(agent_id, effect->id, effect->low != 0);
     }
+}
+
+/* Hooks round, or make the nearest rate that there is. */
+bool scmi_service_rate(unsigned int agent_id, uint32_t clock, uint64_t *rate)
+{
+    *rate = plat_scmi_clock_get_rate(agent_id, clock);
+    return true;
 }
 
 static void look_at_clock(unsigned int agent, scmi_platform *platform, uint32_t id)

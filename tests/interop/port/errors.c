@@ -17,9 +17,10 @@
 
 enum { STATUS = 1, LENGTH = 5, HEADER = 6, PAYLOAD = 7, AREA_BYTES = 128 };
 /* Headers without a token. */
-enum { VERSION = 0x4000, STATE_SET = 0x4404, STATE_GET = 0x4405, ATTRIBUTES = 0x5003, RATES = 0x5004, RATE_SET = 0x5005,
-       RATE_GET = 0x5006, CONFIG_SET = 0x5007 };
-enum { ON = 0, OFF = 0x40000000, MOST_CLOCKS = 40, MOST_OFFERED = 80 };
+enum { VERSION = 0x4000, VENDOR = 0x4003, SUB_VENDOR = 0x4004, STATE_SET = 0x4404, STATE_GET = 0x4405,
+       ATTRIBUTES = 0x5003, RATES = 0x5004, RATE_SET = 0x5005, RATE_GET = 0x5006, CONFIG_SET = 0x5007,
+       RATE_SET_COMPLETE = 0x5205 };
+enum { ON = 0, OFF = 0x40000000, ASYNCHRONOUS = 1, MOST_CLOCKS = 40, MOST_OFFERED = 80 };
 
 /* The platform under test. */
 static struct {
@@ -38,6 +39,10 @@ static unsigned long grain = 1; /* the hook rounds down to a multiple of it */
 static uint32_t areas[2][AREA_BYTES / 4];
 static struct scmi_msg_channel channels[3];
 static struct scmi_msg_channel *channel_of[3] = { &channels[0], &channels[1], &channels[2] };
+/* What the platform may have beside its hooks: a channel for messages to the first agent. */
+static uint32_t messages[AREA_BYTES / 4];
+static const struct scmi_msg_channel back = { .shm_addr = (uintptr_t)messages, .shm_size = AREA_BYTES };
+static bool has_back;
 /* ---- The hooks. */
 
 struct scmi_msg_channel *plat_scmi_get_channel(unsigned int agent) { return agent < 3 ? channel_of[agent] : NULL; }
@@ -108,6 +113,11 @@ int32_t plat_scmi_pd_set_state(unsigned int agent, unsigned int flags, unsigned 
     if (hook_status == SCMI_SUCCESS)
         domain_states[id] = state;
     return hook_status;
+}
+
+const struct scmi_msg_channel *scmi_service_outbox(unsigned int agent)
+{
+    return has_back && agent == 0 ? &back : NULL;
 }
 
 /* ---- The platform that a test begins with, and an agent. */
@@ -182,8 +192,16 @@ static void a_message_is_answered_by_either_entry(void)
     post(1, VERSION, 4, NULL);
     scmi_smt_interrupt_entry(1);
     check("by an interrupt", areas[1][STATUS] == 1 && areas[1][PAYLOAD + 1] == 0x20000);
-    check("one thing is said, of each", strcmp(said, "SCMI: sub-vendor \"\" is named \"-\"\n"
-                                                     "SCMI: sub-vendor \"\" is named \"-\"\n") == 0);
+    check("nothing is said", strcmp(said, "") == 0);
+}
+
+/* Whether the first agent's reply has a name from a word of its payload on. */
+static bool is_name(const char *name, size_t at)
+{
+    char field[SCMI_NAME_ROOM] = { 0 };
+
+    memcpy(field, name, strlen(name));
+    return memcmp(areas[0] + PAYLOAD + at, field, sizeof(field)) == 0;
 }
 
 static void a_free_channel_is_left_alone(void)
@@ -371,7 +389,7 @@ static void what_is_not_served_is_said_by_name(void)
     static char names[MOST_CLOCKS][8];
 
     protocols[2] = 0x16;
-    vendor = "A long name with blanks";
+    vendor = "A long\tname with blanks";
     for (unsigned int id = 0; id < MOST_CLOCKS; id++) {
         snprintf(names[id], sizeof(names[id]), "clk%u", id);
         set_clock(0, id, id == 35 ? NULL : names[id], 100);
@@ -380,7 +398,7 @@ static void what_is_not_served_is_said_by_name(void)
     init();
     check("beyond the limit", of(ATTRIBUTES, 31) == 0 && of(ATTRIBUTES, 32) == SCMI_NOT_FOUND);
     check("a protocol", ask(0, 0x5800, 0, NULL) == SCMI_NOT_SUPPORTED);
-    says("SCMI: vendor \"A long name with blanks\" is named \"A_long_name_wit\"\n");
+    says("SCMI: vendor \"A long\tname with blanks\" is named \"A long_name wit\"\n");
     says("SCMI: agent 0: protocol 0x16 is not supported\n");
     says("SCMI: agent 0: clock 32, \"clk32\", is beyond 32, and is not found\n");
     says("SCMI: agent 0: clock 39, \"clk39\", is beyond 32, and is not found\n");
@@ -474,6 +492,43 @@ static void what_the_hardware_changes_is_read(void)
     check("no change was asked of it", sets == 0);
 }
 
+static void names_are_the_hooks(void)
+{
+    vendor = "Versal Gen 2";
+    set_clock(0, 1, "", 100);
+    set_clock(0, 2, " the ~ clock ", 100);
+    init();
+    check("with blanks", ask(0, VENDOR, 0, NULL) == 0 && is_name("Versal Gen 2", 1));
+    check("of a clock too", of(ATTRIBUTES, 2) == 0 && is_name(" the ~ clock ", 2));
+    check("and none", ask(0, SUB_VENDOR, 0, NULL) == 0 && is_name("", 1) && of(ATTRIBUTES, 1) == 0 && is_name("", 2));
+    check("nothing is said", strcmp(said, "") == 0);
+}
+
+static void a_set_over_hooks_is_told_with_the_hooks_rate(void)
+{
+    has_back = true;
+    grain = 100;
+    init();
+    check("it is taken", ask(0, RATE_SET, 4, (uint32_t[]){ ASYNCHRONOUS, 0, 299, 0 }) == 0 && sets == 0);
+    check("another is not", set_rate(0, 0, 100) == SCMI_BUSY);
+    check("it is told", scmi_service_poll() == 1 << 0 && sets == 1 && clocks[0][0].rate == 200);
+    check("as it was made", messages[STATUS] == 0 && (messages[HEADER] & 0x3ffff) == RATE_SET_COMPLETE &&
+                                messages[PAYLOAD] == SCMI_SUCCESS && messages[PAYLOAD + 1] == 0 &&
+                                messages[PAYLOAD + 2] == 200 && messages[PAYLOAD + 3] == 0);
+    check("and read", rate_of(0, 0) == 200);
+    messages[STATUS] = 1;
+    hook_status = SCMI_BUSY;
+    check("the next is taken", ask(0, RATE_SET, 4, (uint32_t[]){ ASYNCHRONOUS, 0, 300, 0 }) == 0);
+    check("refused by the hook", scmi_service_poll() == 1 << 0 && messages[LENGTH] == 8 &&
+                                     (int32_t)messages[PAYLOAD] == SCMI_BUSY && rate_of(0, 0) == 200);
+    messages[STATUS] = 1;
+    hook_status = 1;
+    check("and another", ask(0, RATE_SET, 4, (uint32_t[]){ ASYNCHRONOUS, 0, 300, 0 }) == 0);
+    check("by what is no status", scmi_service_poll() == 1 << 0 && (int32_t)messages[PAYLOAD] == SCMI_HARDWARE_ERROR);
+    check("no other agent has a way back", ask(1, RATE_SET, 4, (uint32_t[]){ ASYNCHRONOUS, 0, 300, 0 }) ==
+                                               SCMI_NOT_SUPPORTED);
+}
+
 static const struct test tests[] = {
     { "a message is answered by either entry", a_message_is_answered_by_either_entry, 0 },
     { "a free channel is left alone", a_free_channel_is_left_alone, 0 },
@@ -496,6 +551,8 @@ static const struct test tests[] = {
     { "steps are the hook's as far as they can be", steps_are_the_hooks_as_far_as_they_can_be, 0 },
     { "steps need no room for rates", steps_need_no_room_for_rates, 0 },
     { "what the hardware changes is read", what_the_hardware_changes_is_read, 0 },
+    { "names are the hooks'", names_are_the_hooks, 0 },
+    { "a set over hooks is told with the hook's rate", a_set_over_hooks_is_told_with_the_hooks_rate, 0 },
 };
 
 int main(void)
