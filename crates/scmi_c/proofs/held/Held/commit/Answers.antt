@@ -1,11 +1,19 @@
 use Rattle.std.proofs.Common.{rules, [], ◌∷◌, ◌++◌, Some, subst, ap, ◌∙◌}
 use Rattle.scmi_core.specs.Asked.{Made}
 use Rattle.scmi_plan.specs.declared.effect.Effect.{Effect}
+use Rattle.scmi_core.specs.declared.event.Event.{Event}
+use Rattle.scmi_core.specs.declared.event.Event.TheVariants.{Command as Called}
 use Rattle.scmi_c.specs.Standing.{Held, StandsAt, board_of, HasHistory}
 use Rattle.scmi_c.proofs.Driving.{drives_made}
 use Rattle.scmi_c.proofs.RateChanges.{clock-known}
 use Rattle.scmi_c.proofs.Askable.{still-made}
 use Rattle.scmi_c.proofs.held.Held.commit.Goals as goal
+
+pub invariant_of-self : goal.invariant_of-self
+invariant_of-self c =
+    let had = c.self.invariant in
+    let event : Event = Called c.args.agent c.args.frame.now in
+    (had.0 ++ event ∷ [], (c.commit-answered.ensures.event had.0 had.1.0, c.count.ensures.count had.0 event had.1.1))
 
 pub returns-clause-driven : goal.returns-clause-driven
 returns-clause-driven c =
