@@ -1,5 +1,5 @@
 -- Lines of another number of items than two.
-use Rattle.std.proofs.Common.{◌≡◌, ℕ, ◌<◌, ◌≤◌, List, [], ◌∷◌, length, map, None, Bor, refl, arith}
+use Rattle.std.proofs.Common.{◌≡◌, ℕ, ◌<◌, List, [], ◌∷◌, length, map, None, Bor, refl, arith}
 use Rattle.scmi_plan.specs.Board.{Board}
 use Rattle.scmi_live.specs.Reports.{clock_rate_of}
 
