@@ -177,6 +177,10 @@ fn draw(
             let frame = Some(Frame::Good(message.copy()));
             recorder.record(line, &step, &StepLine::P2a { agent, frame }, core)
         }
+        Entry::Told { report } => {
+            let step = Step::Report { report: *report };
+            recorder.record(line, &step, &StepLine::Reported { taken: true }, core)
+        }
     }
 }
 
