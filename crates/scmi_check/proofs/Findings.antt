@@ -21,6 +21,7 @@ pub same-or-not : (v : Verdict) → (v ≡ verdict.Same) ⊎ (v ≢ verdict.Same
 same-or-not verdict.Same = inl refl
 same-or-not verdict.NoAgent = inr (λ is. absurd (cc))
 same-or-not verdict.NoMessage = inr (λ is. absurd (cc))
+same-or-not verdict.NoReport = inr (λ is. absurd (cc))
 same-or-not (verdict.Answer due) = inr (λ is. absurd (cc))
 same-or-not (verdict.Message due) = inr (λ is. absurd (cc))
 
