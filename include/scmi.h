@@ -314,8 +314,8 @@ uint32_t scmi_answer(scmi_platform *SCMI_ALONE platform, uint32_t agent, uint8_t
  * SCMI_NO_FRAME (the channel is free) or SCMI_NO_AGENT.
  *
  * If a program commits exactly what its hardware made, fails or refuses exactly what it refused, and calls
- * scmi_advance, scmi_fail_advance, scmi_refuse_advance and the two that end a set at a place in the same way, then its
- * hardware has made exactly the changes of the platform's history but those that it reported by itself
+ * scmi_advance, scmi_fail_advance, scmi_refuse_advance and the three that end a set at a place in the same way, then
+ * its hardware has made exactly the changes of the platform's history but those that it reported by itself
  * (scmi_domain_is, scmi_clock_is and scmi_commit_rate), in order, each once, and refused exactly those that failed.
  */
 uint32_t scmi_ask(scmi_platform *SCMI_ALONE platform, uint32_t agent, uint8_t area[SCMI_ALONE SCMI_AREA_BYTES],
@@ -434,7 +434,7 @@ uint32_t scmi_advance(scmi_platform *platform);
  * Gives what the completion of the first pending set is to change of the hardware; the platform stays as it was.
  * SCMI_DONE, SCMI_NO_PLATFORM or SCMI_NOTHING (none is pending). Nothing is kept of it: the first set stays the
  * first, whatever commands are answered, until scmi_advance, scmi_fail_advance or scmi_refuse_advance takes it off;
- * scmi_advance_at and scmi_fail_advance_at may end another before it.
+ * scmi_advance_at, scmi_fail_advance_at and scmi_refuse_advance_at may end another before it.
  */
 uint32_t scmi_ask_advance(scmi_platform *SCMI_ALONE platform, scmi_effect *SCMI_ALONE effect);
 
@@ -457,6 +457,9 @@ uint32_t scmi_advance_at(scmi_platform *platform, uint32_t place);
 
 /* The same of a set whose change the hardware refused, which ends as by scmi_fail_advance. */
 uint32_t scmi_fail_advance_at(scmi_platform *platform, uint32_t place);
+
+/* The same by a status, as scmi_refuse takes it: the delayed response is this. SCMI_WRONG_STATUS comes last. */
+uint32_t scmi_refuse_advance_at(scmi_platform *platform, uint32_t place, int32_t status);
 
 /*
  * The hardware gives the pending set of a clock that is free this rate, and not the one that was asked for: in Hz, by

@@ -1,5 +1,5 @@
 //! Pending sets that end before the others, and the rate that the hardware gives one.
-ghost use Rattle.std.specs.Prelude.{◌≡◌, ◌↔◌, List, true, false};
+ghost use Rattle.std.specs.Prelude.{◌≡◌, ◌↔◌, ◌⊎◌, Err, IfErr, IsSomeAnd, List, None, OnErr, OnOk, true, false};
 ghost use Rattle.scmi_core.specs.History.{CanSettle, HasPendingAt};
 ghost use Rattle.scmi_core.specs.declared.event.Event.{Event};
 ghost use Rattle.scmi_core.specs.declared.event.Event.TheVariants.{Advance, AdvanceFailed, Promoted, Settled};
@@ -9,6 +9,7 @@ ghost use Rattle.scmi_c.specs.Kept.{KeepsAskable};
 ghost use Rattle.scmi_c.specs.Standing.{HasHistory, StandsAt, board_of};
 
 use crate::held::{Held, count};
+use crate::refusal::Refusal;
 use scmi_codec::Fault;
 
 impl Held {
@@ -61,6 +62,42 @@ impl Held {
         }
         // Never refused, since a set is pending.
         self.advance_failed(Some(fault)).is_ok()
+    }
+
+    /// As `advance_failed_at`, of a fault that may be missing. `Nothing` if no set is pending at
+    /// the place, else `WrongStatus` if there is no fault; then nothing changed.
+    pub fn refuse_at(&mut self, place: u32, fault: Option<Fault>) -> Result<(), Refusal>
+        ensures ok { OnOk result (IsSomeAnd fault (λ fault.
+            HappenInTurn self.old self.new (Promoted place) (AdvanceFailed fault))) }
+        ensures askable { KeepsAskable self.old self.new }
+        ensures nothing { (h : List Event) → StandsAt self.old h →
+            (result ≡ Err Refusal.Nothing) ↔ ¬ (HasPendingAt (board_of self.old) h place) }
+        ensures wrong_status { (h : List Event) → StandsAt self.old h →
+            (result ≡ Err Refusal.WrongStatus)
+            ↔ (HasPendingAt (board_of self.old) h place × (fault ≡ None)) }
+        ensures errors { IfErr result (λ e.
+            (e ≡ Refusal.Nothing) ⊎ ((e ≡ Refusal.WrongStatus) × (fault ≡ None))) }
+        ensures err { OnErr result (self.new ≡ self.old) }
+    {
+        let Some(fault) = fault else {
+            return if self.has_pending_at(place) {
+                Err(Refusal::WrongStatus)
+            } else {
+                Err(Refusal::Nothing)
+            };
+        };
+        if !self.advance_failed_at(place, fault) {
+            return Err(Refusal::Nothing);
+        }
+        Ok(())
+    }
+
+    /// Whether a set is pending at a place.
+    fn has_pending_at(&self, place: u32) -> bool
+        ensures { (h : List Event) → StandsAt self.now h →
+            (result ≡ true) ↔ HasPendingAt (board_of self.now) h place }
+    {
+        (place as usize) < self.platform.pending_sets().len()
     }
 
     /// Gives the pending set of a free clock this rate; `false` if the clock is not free or has no

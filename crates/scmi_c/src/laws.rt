@@ -20,8 +20,9 @@ ghost use Rattle.scmi_c.specs.Standing.{Held, StandsAt, board_of};
 /// it refused are those that failed. A platform that was made is driven, and each call that a
 /// driver uses leaves it driven: `scmi_ask`, `scmi_commit`, `scmi_commit_rate`, `scmi_fail`,
 /// `scmi_refuse`, their kin for areas and words, `scmi_advance`, `scmi_fail_advance`,
-/// `scmi_refuse_advance`, `scmi_advance_at`, `scmi_fail_advance_at`, `scmi_settled`, `scmi_sent`,
-/// `scmi_restart`, `scmi_domain_is` and `scmi_clock_is`. It does nothing: its clauses are the laws.
+/// `scmi_refuse_advance`, `scmi_advance_at`, `scmi_fail_advance_at`, `scmi_refuse_advance_at`,
+/// `scmi_settled`, `scmi_sent`, `scmi_restart`, `scmi_domain_is` and `scmi_clock_is`. It does
+/// nothing: its clauses are the laws.
 pub fn every_driver()
     ensures made { (p : Held) (h : List Event) → IsDriven p h
         → made_of p.said ≡ commanded_effects (board_of p) h }
@@ -37,8 +38,8 @@ pub fn every_driver()
 /// settled or reported, is at a history of commands, completions and postings alone: all events but
 /// those of `scmi_fail` and `scmi_refuse`, their kin for areas, words and pending sets,
 /// `scmi_restart`, `scmi_settled`, `scmi_domain_is` and `scmi_clock_is`, the report that
-/// `scmi_commit_rate` and its kin put behind the command, and the promotions of `scmi_advance_at`
-/// and `scmi_fail_advance_at`. It does nothing: its clauses are the laws.
+/// `scmi_commit_rate` and its kin put behind the command, and the promotions of `scmi_advance_at`,
+/// `scmi_fail_advance_at` and `scmi_refuse_advance_at`. It does nothing: its clauses are the laws.
 pub fn plain_histories()
     ensures made { (p : Held) → StandsAt p [] → HasPlainHistory p }
     ensures event { (p k : Held) (event : Event) → HasPlainHistory p → HasHappened p k event
