@@ -1,6 +1,6 @@
 /*
- * Hardware that finishes a later pending set first, and gives it another rate than was asked for; and then refuses the
- * one before it.
+ * Hardware that finishes a later pending set first, and gives it another rate than was asked for; then it refuses a
+ * later one by a status, and the one before it.
  */
 #include <stdio.h>
 #include <string.h>
@@ -19,8 +19,9 @@ static const char board[] = "board Acme Lab 0x00010000 1\n"
 static uint8_t memory[64 * 1024];
 
 enum { ON = 0, LATER = 1, CORE = 0, BUS = 1, NO_CLOCK = 2 };
-/* With tokens 1, 2 and 3. */
+/* With tokens 1, 2, 3 and 4. */
 enum { CORE_SET = 0x00045005, BUS_SET = 0x00085005, RATE_GET = 0x000c5006, STATE_SET = 0x00004404 };
+enum { BUS_SET_AGAIN = 0x00105005 };
 
 static void show_pending(scmi_platform *platform)
 {
@@ -38,12 +39,13 @@ static void show_rates(scmi_platform *platform)
     area_answer(platform, 2, RATE_GET, 1, (uint32_t[]){ BUS });
 }
 
-/* All three calls, on a set at a place and on one of a clock. */
+/* All four calls, on a set at a place and on one of a clock. */
 static void try_at(scmi_platform *platform, const char *says, uint32_t place, uint32_t clock)
 {
     printf("%s: settled %u", says, (unsigned)scmi_settled(platform, clock, 1000, 0));
     printf(", advance at %u", (unsigned)scmi_advance_at(platform, place));
-    printf(", fail at %u\n", (unsigned)scmi_fail_advance_at(platform, place));
+    printf(", fail at %u", (unsigned)scmi_fail_advance_at(platform, place));
+    printf(", refuse at %u\n", (unsigned)scmi_refuse_advance_at(platform, place, SCMI_STATUS_DENIED));
 }
 
 /* A command that is asked about comes first, and one that is set aside does not. */
@@ -61,6 +63,19 @@ static void beside(scmi_platform *platform)
     printf(", take up %u", (unsigned)scmi_take_up(platform, 1));
     printf(", commit %u: words", (unsigned)scmi_commit(platform, area));
     area_print_words(area);
+}
+
+/* A later set is refused by a status; first by a number that is none of hardware, which changes nothing. */
+static void refuse_second(scmi_platform *platform)
+{
+    area_answer(platform, 2, BUS_SET_AGAIN, 4, (uint32_t[]){ LATER, BUS, 5000, 0 });
+    printf("refuse at 1 by 0: %u", (unsigned)scmi_refuse_advance_at(platform, 1, 0));
+    printf(", at 2: %u\n", (unsigned)scmi_refuse_advance_at(platform, 2, 0));
+    show_pending(platform);
+    printf("refuse at 1: %u\n", (unsigned)scmi_refuse_advance_at(platform, 1, SCMI_STATUS_DENIED));
+    area_tell(platform, 1);
+    area_tell(platform, 2);
+    show_pending(platform);
 }
 
 int main(void)
@@ -88,6 +103,7 @@ int main(void)
     area_tell(&platform, 2);
     show_pending(&platform);
     try_at(&platform, "finished", 1, BUS);
+    refuse_second(&platform);
     printf("fail at 0: %u\n", (unsigned)scmi_fail_advance_at(&platform, 0));
     area_tell(&platform, 1);
     area_tell(&platform, 2);

@@ -84,13 +84,18 @@ with scmi.Platform(BOARD.replace("end", "channel 1 156\nchannel 2 60 one-way\nen
     refused(platform.domain_state, 1)
 
 with scmi.Platform(BOARD.replace("end", "free clock 0\nend")) as platform:
-    print("none pending", platform.settled(0, 5), platform.advance_at(0), platform.fail_advance_at(0))
+    print("none pending", platform.settled(0, 5), platform.advance_at(0), platform.fail_advance_at(0),
+          platform.refuse_advance_at(0, "DENIED"))
     show("on, later", platform.call(1, POWER, 0x4, 1, 0, scmi.ON))
     show("150 Hz, later", platform.call(2, CLOCK, 0x5, 1, 0, 150, 0))
     print("settled", platform.settled(0, 6 << 32 | 149), platform.settled(1, 149))
     for agent, effect in platform.pending():
         print("pending", agent, *effect)
     print("the second first", platform.advance_at(2), platform.advance_at(1), platform.clock_rate(0))
+    show("200 Hz, later", platform.call(2, CLOCK, 0x5, 1, 0, 200, 0))
+    refused(platform.refuse_advance_at, 1, "SUCCESS")
+    print("the second refused", platform.refuse_advance_at(2, "DENIED"), platform.refuse_advance_at(1, "DENIED"),
+          platform.clock_rate(0))
     print("the first refused", platform.fail_advance_at(1), platform.fail_advance_at(0), platform.domain_state(0))
     for agent in 1, 2:
         for header, words in platform.messages(agent):
@@ -100,6 +105,7 @@ with scmi.Platform(BOARD.replace("end", "free clock 0\nend")) as platform:
     refused(platform.settled, 0, 5)
     refused(platform.advance_at, 0)
     refused(platform.fail_advance_at, 0)
+    refused(platform.refuse_advance_at, 0, "DENIED")
 
 with scmi.Platform(BOARD.replace("end", "protocols 0x11,0x14,0x80\nend")) as platform:
     own = scmi.command(scmi.header_of(0x80, 0x3, token=5), 7)

@@ -292,11 +292,12 @@ static void end_made(unsigned int agent, uint32_t place, const scmi_effect *effe
         report_rate(platform, effect->id, rate);
 }
 
-/* The hardware has refused it. No call of the library ends a set by a status before others: those are HARDWARE_ERROR. */
+/* The hardware has refused it. A number that is none, or says nothing of hardware, is HARDWARE_ERROR. */
 static void end_refused(unsigned int agent, uint32_t place, int32_t status)
 {
     scmi_platform *platform = &service_of(agent)->platform;
-    uint32_t given = place > 0 ? SCMI_WRONG_STATUS : scmi_refuse_advance(platform, status);
+    uint32_t given = place > 0 ? scmi_refuse_advance_at(platform, place, status)
+                               : scmi_refuse_advance(platform, status);
 
     if (given == SCMI_WRONG_STATUS) {
         INFO("SCMI: agent %u: %d of the hardware is told as HARDWARE_ERROR\n", agent, status);

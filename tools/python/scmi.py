@@ -10,8 +10,9 @@
         ..
 
 The calls of scmi.h have their names here: answer, ask, commit, commit_rate, fail, refuse, set_aside, take_up, reply,
-advance, ask_advance, fail_advance, refuse_advance, advance_at, fail_advance_at, settled, next, sent, restart,
-domain_is, clock_is, channel, domain_state, clock_rate, clock_enabled, pending, outbox_length, history_length, version.
+advance, ask_advance, fail_advance, refuse_advance, advance_at, fail_advance_at, refuse_advance_at, settled, next,
+sent, restart, domain_is, clock_is, channel, domain_state, clock_rate, clock_enabled, pending, outbox_length,
+history_length, version.
 
 An area is a bytearray of the size of its agent's channel, AREA_BYTES bytes unless the board sets another size. It is
 changed in place: answer, ask, commit, commit_rate, fail, refuse and next are the calls of C that take its size
@@ -20,7 +21,8 @@ changed in place: answer, ask, commit, commit_rate, fail, refuse and next are th
 A call returns True for SCMI_DONE and False for SCMI_NOTHING or SCMI_NO_FRAME. Calls for a value return it, or None.
 Any other number raises Refused, and then nothing has changed. ask returns the Effect to be made, and then commit,
 commit_rate, fail or refuse replies; it returns None if the command was answered, or there was none. Only one thread at
-a time may call a platform. refuse and refuse_advance take the name of a status, such as "DENIED".
+a time may call a platform. refuse, refuse_advance and refuse_advance_at take the name of a status, such as
+"DENIED".
 
 The library is the file that SCMI_LIBRARY names, else libscmi.so beside this file or where tools/install puts it.
 """
@@ -124,6 +126,7 @@ def load(file=None):
             ("scmi_refuse_in", *area, ctypes.c_int32), ("scmi_set_aside",), ("scmi_take_up", number),
             ("scmi_advance",), ("scmi_ask_advance", effect), ("scmi_fail_advance",),
             ("scmi_refuse_advance", ctypes.c_int32), ("scmi_advance_at", number), ("scmi_fail_advance_at", number),
+            ("scmi_refuse_advance_at", number, ctypes.c_int32),
             ("scmi_settled", number, number, number), ("scmi_next_in", number, *area), ("scmi_sent", number),
             ("scmi_restart", number), ("scmi_domain_is", number, number), ("scmi_clock_is", number, number, number, number),
             ("scmi_channel", number, ctypes.POINTER(_Channel)), ("scmi_domain_state", number, word),
@@ -267,6 +270,9 @@ class Platform:
     def fail_advance_at(self, place):
         """As advance_at, of a set whose change the hardware refused."""
         return self._give(self._library.scmi_fail_advance_at(self._handle, place))
+
+    def refuse_advance_at(self, place, status):
+        return self._give(self._library.scmi_refuse_advance_at(self._handle, place, -STATUSES.index(status)))
 
     def settled(self, clock, rate):
         """The hardware gives the pending set of a free clock this rate, in Hz; False if there is no such set."""

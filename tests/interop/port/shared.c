@@ -428,10 +428,10 @@ static void a_set_is_refused_before_the_others(void)
     slow = 1 << BUS;
     check("two are taken", set_rate(REMOTE, ASYNCHRONOUS, 100) == 0 && set_core(REMOTE, ASYNCHRONOUS, 600) == 0);
     makes = false;
-    check("the second is refused", is_refused(SCMI_HARDWARE_ERROR) && core_rate_of(LOCAL) == 500);
+    check("the second is refused by its status", is_refused(SCMI_DENIED) && core_rate_of(LOCAL) == 500);
     check("the first waits", nothing_is_told() && rate_of(LOCAL) == 200);
     slow = 0;
-    check("and is refused by its status", is_refused(SCMI_DENIED) && rate_of(LOCAL) == 200);
+    check("and is refused, too", is_refused(SCMI_DENIED) && rate_of(LOCAL) == 200);
     makes = true;
     check("the next are made", set_rate(REMOTE, ASYNCHRONOUS, 100) == 0 && is_told(BUS, 100));
 }
