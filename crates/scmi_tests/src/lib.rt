@@ -33,6 +33,4 @@ mod pair;
 #[cfg(test)]
 mod race;
 #[cfg(test)]
-mod reports;
-#[cfg(test)]
 mod surface;
