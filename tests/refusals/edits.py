@@ -1,4 +1,5 @@
 """Wrong bodies, crates/CRATE/must-fail/*.edit: what each changes, and how it is made in a copy of its crate."""
+import functools
 import re
 import shutil
 from collections import Counter
@@ -52,11 +53,47 @@ def unedited_of(edits):
     return [Edit(path, functions={path: it}, is_unedited=True) for path, it in functions.items()]
 
 
-def is_answered(unedited, folder):
-    """Whether a proof file answers goals of the function that an edit leaves as it is."""
-    (function,), homes = unedited.functions.values(), homes_of(folder)
-    proof = proof_of(function, function.file, homes)
-    return proof is not None and any((folder / "proofs" / proof).glob("*.antt"))
+def cites_others(unedited, folder):
+    """Whether the proof of the function that an edit leaves as it is, or a lemma that it uses, cites another's proof.
+
+    In company the others have a hole for a proof. Their contracts and all lemmas are there.
+    """
+    (function,), cited = unedited.functions.values(), cited_of(folder)
+    proof = proof_of(function, function.file, homes_of(folder))
+    own = ".".join(proof.parts) if proof else ""
+    others = functions_with_proofs(folder) - {own}
+    met, left = set(), {it for it in cited if proof and is_of(it, own)}
+    while left:
+        module = left.pop()
+        met.add(module)
+        names = {it for it in cited.get(module, ()) if not is_of(it, own)}
+        if any(is_of(name, other) for name in names for other in others):
+            return True
+        left |= (names & cited.keys()) - met
+    return False
+
+
+def is_of(module, other):
+    """Whether a module is another, or below it."""
+    return module == other or module.startswith(f"{other}.")
+
+
+@functools.cache
+def cited_of(folder):
+    """The modules of a crate's proofs, by those that cite them."""
+    named = re.compile(rf"\bRattle\.{folder.name}\.proofs\.([\w+-]+(?:\.[\w+-]+)*)")
+    files = {it: it.relative_to(folder / "proofs").with_suffix("") for it in folder.glob("proofs/**/*.antt")}
+    return {".".join(it.parts): {*named.findall(file.read_text())} for file, it in files.items()}
+
+
+@functools.cache
+def functions_with_proofs(folder):
+    """The modules in which the functions of a crate have their proofs."""
+    homes, found = homes_of(folder), set()
+    for file in folder.glob("src/**/*.rt"):
+        path = file.relative_to(folder)
+        found |= {proof_of(it, path, homes) for it in functions_of(path, file.read_text())}
+    return {".".join(it.parts) for it in found - {None}}
 
 
 def locate(edit, folder):
@@ -193,6 +230,6 @@ def batches_of(edits, folder):
 
 
 def company_of(batch, edits, folder):
-    """The function that is tried unchanged in a batch which has none: one that a crate's edits change, but none here in place."""
+    """The function that is tried unchanged in a batch that has none: one that a crate's edits change, none here in place."""
     others = [] if any(it.is_unedited for it in batch) else unedited_of(edits)
     return next(([it] for it in others if joins(it, batch, folder)), [])
