@@ -56,6 +56,17 @@ static inline void area_answer(scmi_platform *platform, uint32_t agent, uint32_t
     area_print_words(area);
 }
 
+/* Prints the pending sets, in the order in which they end. */
+static inline void show_pending(scmi_platform *platform)
+{
+    scmi_effect effect;
+    uint32_t agent;
+
+    for (uint32_t place = 0; scmi_pending(platform, place, &agent, &effect) == SCMI_DONE; place++)
+        printf("pending of %u: %u %u 0x%08x 0x%08x\n", (unsigned)agent, (unsigned)effect.kind, (unsigned)effect.id,
+               (unsigned)effect.low, (unsigned)effect.high);
+}
+
 /* Takes all messages off an agent's outbox, and prints them. */
 static inline void area_tell(scmi_platform *platform, uint32_t agent)
 {

@@ -23,16 +23,6 @@ enum { ON = 0, LATER = 1, CORE = 0, BUS = 1, NO_CLOCK = 2 };
 enum { CORE_SET = 0x00045005, BUS_SET = 0x00085005, RATE_GET = 0x000c5006, STATE_SET = 0x00004404 };
 enum { BUS_SET_AGAIN = 0x00105005 };
 
-static void show_pending(scmi_platform *platform)
-{
-    scmi_effect effect;
-    uint32_t agent;
-
-    for (uint32_t place = 0; scmi_pending(platform, place, &agent, &effect) == SCMI_DONE; place++)
-        printf("pending of %u: %u %u 0x%08x 0x%08x\n", (unsigned)agent, (unsigned)effect.kind, (unsigned)effect.id,
-               (unsigned)effect.low, (unsigned)effect.high);
-}
-
 static void show_rates(scmi_platform *platform)
 {
     area_answer(platform, 1, RATE_GET, 1, (uint32_t[]){ CORE });

@@ -39,16 +39,6 @@ static void clock_is(scmi_platform *platform, uint32_t low, uint32_t high, uint3
     area_answer(platform, 1, CLOCK_ATTRIBUTES, 1, (uint32_t[]){ 0 });
 }
 
-static void show_pending(scmi_platform *platform)
-{
-    scmi_effect effect;
-    uint32_t agent;
-
-    for (uint32_t place = 0; scmi_pending(platform, place, &agent, &effect) == SCMI_DONE; place++)
-        printf("pending of %u: %u %u 0x%08x 0x%08x\n", (unsigned)agent, (unsigned)effect.kind, (unsigned)effect.id,
-               (unsigned)effect.low, (unsigned)effect.high);
-}
-
 /* Sets that are pending wait on, and complete after what was reported. */
 static void while_pending(scmi_platform *platform)
 {
