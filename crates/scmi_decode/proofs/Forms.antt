@@ -1,5 +1,5 @@
 -- Rows as programs print them, which the prover reads by the definitions: each has the same sixteen bytes.
-use Rattle.std.proofs.Common.{◌≡◌, ℕ, Bool, List, [], ◌∷◌, ◌++◌, Option, None, Some, true, false, codes, refl}
+use Rattle.std.proofs.Common.{◌≡◌, ℕ, Bool, List, [], ◌∷◌, ◌++◌, length, map, replicate, Option, None, Some, true, false, codes, refl}
 use Rattle.hex.specs.Hex.{decode_pairs}
 use Rattle.std.specs.List.{slice_split}
 use Rattle.std.specs.Option.{option_map}
@@ -34,219 +34,129 @@ pub record ReadRow : Type 0 where
 abbrev pub read_row : List ℕ → Option ReadRow
 read_row line = option_map (λ r. record { form = r.form; address = r.address; bytes = settled r.order r.cells }) (row_of line)
 
+-- lines of which each is this row
+abbrev pub AreRead : Option ReadRow → List (List ℕ) → Type 0
+AreRead row lines = map read_row lines ≡ replicate (length lines) row
+
 abbrev pub row_at : Form → ℕ → ReadRow
 row_at f address = record { form = f; address = address; bytes = Some sixteen_bytes }
 
-pub xxd : read_row (codes "00000010: 0000 0000 1000 0000 0444 1c00 0100 0000  .........D......") ≡ Some (row_at Marked 0x10)
+pub rows :
+    -- xxd in bytes, in groups of two, of four and of eight, and with -e in words; the kernel's log
+    AreRead (Some (row_at Marked 0x10)) (
+    codes "00000010: 00 00 00 00 10 00 00 00 04 44 1c 00 01 00 00 00  .........D......"
+    ∷ codes "00000010: 0000 0000 1000 0000 0444 1c00 0100 0000  .........D......"
+    ∷ codes "00000010: 00000000 10000000 04441c00 01000000  .........D......"
+    ∷ codes "00000010: 0000000010000000 04441c0001000000  .........D......"
+    ∷ codes "00000010: 00000000 00000010 001c4404 00000001  .........D......"
+    ∷ codes "00000010: 0000001000000000 00000001001c4404  .........D......"
+    ∷ codes "[   12.345678] scmi: 00000010: 00000000 00000010 001c4404 00000001  .........D......"
+    ∷ [])
+    -- xxd -p and xxd -i, and od without addresses
+    × AreRead (Some (row_at Plain 0)) (
+    codes "000000001000000004441c0001000000"
+    ∷ codes "  0x00, 0x00, 0x00, 0x00, 0x10, 0x00, 0x00, 0x00, 0x04, 0x44, 0x1c, 0x00, 0x01, 0x00, 0x00, 0x00,"
+    ∷ codes " 0000001000000000 00000001001c4404"
+    ∷ [])
+    -- hexdump, and od in each size of groups, and beside a column of text that shows their order
+    × AreRead (Some (row_at Offset 0x10)) (
+    codes "00000010  00 00 00 00 10 00 00 00  04 44 1c 00 01 00 00 00  |.........D......|"
+    ∷ codes "0000020 00 00 00 00 10 00 00 00 04 44 1c 00 01 00 00 00"
+    ∷ codes "0000020 0000 0000 0010 0000 4404 001c 0001 0000"
+    ∷ codes "000010 00000000 00000010 001c4404 00000001"
+    ∷ codes "0000020 0000001000000000 00000001001c4404"
+    ∷ codes "000010 00000000 00000010 001c4404 00000001  >.........D......<"
+    ∷ codes "000010 0000 0000 1000 0000 0444 1c00 0100 0000  >.........D......<"
+    ∷ codes "000010 00000000 10000000 04441c00 01000000  >.........D......<"
+    ∷ codes "000010 0000000010000000 04441c0001000000  >.........D......<"
+    ∷ [])
+    -- U-Boot in each size
+    × AreRead (Some (row_at Marked 0x2E000010)) (
+    codes "2e000010: 0000 0000 0010 0000 4404 001c 0001 0000    .........D......"
+    ∷ codes "2e000010: 00000000 00000010 001c4404 00000001    .........D......"
+    ∷ codes "2e000010: 0000001000000000 00000001001c4404    .........D......"
+    ∷ [])
+    -- gdb, and Lauterbach's debugger
+    × AreRead (Some (row_at Marked 0x45000010)) (
+    codes "0x45000010 <shmem+16>:\t0x0000001000000000\t0x00000001001c4404"
+    ∷ codes " NSD:45000010|>00000000 00000010 001C4404 00000001 .........D......"
+    ∷ codes "  SD:45000010|00 00 00 00 10 00 00 00 04 44 1C 00 01 00 00 00 .........D......"
+    ∷ [])
+    -- J-Link
+    × AreRead (Some (row_at Equals 0x45000010)) (
+    codes "45000010 = 00000000 00000010 001C4404 00000001 "
+    ∷ codes "45000010 = 0000 0000 0010 0000 4404 001C 0001 0000 "
+    ∷ [])
+    -- addresses of 48 and of 64 bits
+    × AreRead (Some (row_at Marked 0x5555555580B0)) (
+    codes "0x5555555580b0 <shmem+16>:\t0x00000000\t0x00000010\t0x001c4404\t0x00000001" ∷ [])
+    × AreRead (Some (row_at Marked 0xFFFF000045000010)) (
+    codes "ffff000045000010:  0000001000000000 00000001001c4404   .........D......" ∷ [])
+    -- addresses of more digits, but not as many as a group has
+    × AreRead (Some (row_at Offset 0x80000010)) (
+    codes "80000010 00 00 00 00 10 00 00 00 04 44 1c 00 01 00 00 00"
+    ∷ codes "80000010 0000 0000 0010 0000 4404 001c 0001 0000"
+    ∷ codes "80000010 0000001000000000 00000001001c4404"
+    ∷ [])
+    × AreRead (Some (row_at Offset 0x1080000010)) (
+    codes "1080000010 00000000 00000010 001c4404 00000001" ∷ [])
+    -- a column that shows either order
+    × AreRead (Some (record { form = Offset; address = 0; bytes = None })) (
+    codes "000000 00000000 00000001 00000000 00000000  >................<" ∷ [])
+    -- and groups beside such a column, or without one, which may be bytes or numbers
+    × AreRead (Some (record { form = Marked; address = 0; bytes = None })) (
+    codes "00000000: 00000000 00000001 00000000 00000000  ................"
+    ∷ codes "00000000: 0000 0000 1000 0000 0444 1c00 0100 0000"
+    ∷ [])
+    -- four bytes in a last row are no bits
+    × (read_row (codes "000040 00000000                             >....<") ≡ Some (record { form = Offset; address = 0x40; bytes = Some (0 ∷ 0 ∷ 0 ∷ 0 ∷ []) }))
+    -- an address and a value
+    × (read_row (codes "0x2e000018 0x001C4404") ≡ Some (record { form = Marked; address = 0x2E000018; bytes = Some (0x04 ∷ 0x44 ∷ 0x1C ∷ 0 ∷ []) }))
+    -- what is no row: a prompt, and bits in a row and in a shorter one
+    × AreRead None (
+    codes "=> md.l 0x2e000000 0x47"
+    ∷ codes "00000018: 00000100 01000100 00011100 00000000 00000001 00000000  .D...."
+    ∷ codes "0000007e: 00000000 00000000                                      .."
+    ∷ [])
 unfolding row_of without_prefix parts_at parts_row marked_parts offset_parts piped_parts address_of decode_pairs
-xxd = refl
-
-pub xxd_bytes : read_row (codes "00000010: 00 00 00 00 10 00 00 00 04 44 1c 00 01 00 00 00  .........D......") ≡ Some (row_at Marked 0x10)
-unfolding row_of without_prefix parts_at parts_row marked_parts offset_parts piped_parts address_of decode_pairs
-xxd_bytes = refl
-
-pub xxd_words : read_row (codes "00000010: 00000000 00000010 001c4404 00000001  .........D......") ≡ Some (row_at Marked 0x10)
-unfolding row_of without_prefix parts_at parts_row marked_parts offset_parts piped_parts address_of decode_pairs
-xxd_words = refl
-
-pub xxd_plain : read_row (codes "000000001000000004441c0001000000") ≡ Some (row_at Plain 0)
-unfolding row_of without_prefix parts_at parts_row marked_parts offset_parts piped_parts address_of decode_pairs
-xxd_plain = refl
-
-pub xxd_array : read_row (codes "  0x00, 0x00, 0x00, 0x00, 0x10, 0x00, 0x00, 0x00, 0x04, 0x44, 0x1c, 0x00, 0x01, 0x00, 0x00, 0x00,") ≡ Some (row_at Plain 0)
-unfolding row_of without_prefix parts_at parts_row marked_parts offset_parts piped_parts address_of decode_pairs
-xxd_array = refl
-
-pub hexdump : read_row (codes "00000010  00 00 00 00 10 00 00 00  04 44 1c 00 01 00 00 00  |.........D......|") ≡ Some (row_at Offset 0x10)
-unfolding row_of without_prefix parts_at parts_row marked_parts offset_parts piped_parts address_of decode_pairs
-hexdump = refl
-
-pub od_bytes : read_row (codes "0000020 00 00 00 00 10 00 00 00 04 44 1c 00 01 00 00 00") ≡ Some (row_at Offset 16)
-unfolding row_of without_prefix parts_at parts_row marked_parts offset_parts piped_parts address_of decode_pairs
-od_bytes = refl
-
-pub od_words : read_row (codes "000010 00000000 00000010 001c4404 00000001") ≡ Some (row_at Offset 0x10)
-unfolding row_of without_prefix parts_at parts_row marked_parts offset_parts piped_parts address_of decode_pairs
-od_words = refl
-
-pub u_boot : read_row (codes "2e000010: 00000000 00000010 001c4404 00000001    .........D......") ≡ Some (row_at Marked 0x2E000010)
-unfolding row_of without_prefix parts_at parts_row marked_parts offset_parts piped_parts address_of decode_pairs
-u_boot = refl
-
-pub gdb : read_row (codes "0x5555555580b0 <shmem+16>:\t0x00000000\t0x00000010\t0x001c4404\t0x00000001") ≡ Some (row_at Marked 0x5555555580B0)
-unfolding row_of without_prefix parts_at parts_row marked_parts offset_parts piped_parts address_of decode_pairs
-gdb = refl
-
--- numbers of 16 and of 64 bits
-pub md_w : read_row (codes "2e000010: 0000 0000 0010 0000 4404 001c 0001 0000    .........D......") ≡ Some (row_at Marked 0x2E000010)
-unfolding row_of without_prefix parts_at parts_row marked_parts offset_parts piped_parts address_of decode_pairs
-md_w = refl
-
-pub md_q : read_row (codes "2e000010: 0000001000000000 00000001001c4404    .........D......") ≡ Some (row_at Marked 0x2E000010)
-unfolding row_of without_prefix parts_at parts_row marked_parts offset_parts piped_parts address_of decode_pairs
-md_q = refl
-
-pub crash : read_row (codes "ffff000045000010:  0000001000000000 00000001001c4404   .........D......") ≡ Some (row_at Marked 0xFFFF000045000010)
-unfolding row_of without_prefix parts_at parts_row marked_parts offset_parts piped_parts address_of decode_pairs
-crash = refl
-
-pub gdb_giants : read_row (codes "0x45000010 <shmem+16>:\t0x0000001000000000\t0x00000001001c4404") ≡ Some (row_at Marked 0x45000010)
-unfolding row_of without_prefix parts_at parts_row marked_parts offset_parts piped_parts address_of decode_pairs
-gdb_giants = refl
-
-pub od_halves : read_row (codes "0000020 0000 0000 0010 0000 4404 001c 0001 0000") ≡ Some (row_at Offset 16)
-unfolding row_of without_prefix parts_at parts_row marked_parts offset_parts piped_parts address_of decode_pairs
-od_halves = refl
-
-pub od_longs : read_row (codes "0000020 0000001000000000 00000001001c4404") ≡ Some (row_at Offset 16)
-unfolding row_of without_prefix parts_at parts_row marked_parts offset_parts piped_parts address_of decode_pairs
-od_longs = refl
-
--- addresses of more digits, but not as many as a group has
-pub od_far_bytes : read_row (codes "80000010 00 00 00 00 10 00 00 00 04 44 1c 00 01 00 00 00") ≡ Some (row_at Offset 0x80000010)
-unfolding row_of without_prefix parts_at parts_row marked_parts offset_parts piped_parts address_of decode_pairs
-od_far_bytes = refl
-
-pub od_far_halves : read_row (codes "80000010 0000 0000 0010 0000 4404 001c 0001 0000") ≡ Some (row_at Offset 0x80000010)
-unfolding row_of without_prefix parts_at parts_row marked_parts offset_parts piped_parts address_of decode_pairs
-od_far_halves = refl
-
-pub od_far_longs : read_row (codes "80000010 0000001000000000 00000001001c4404") ≡ Some (row_at Offset 0x80000010)
-unfolding row_of without_prefix parts_at parts_row marked_parts offset_parts piped_parts address_of decode_pairs
-od_far_longs = refl
-
-pub od_farther_words : read_row (codes "1080000010 00000000 00000010 001c4404 00000001") ≡ Some (row_at Offset 0x1080000010)
-unfolding row_of without_prefix parts_at parts_row marked_parts offset_parts piped_parts address_of decode_pairs
-od_farther_words = refl
+rows = (refl, refl, refl, refl, refl, refl, refl, refl, refl, refl, refl, refl, refl, refl, refl)
 
 -- as many: whether the first items of two rows may be their addresses
-abbrev pub count_both : Option RowView → Option RowView → Option Bool
-count_both (Some r) (Some s) = Some (counts (column_with (column_begun r) s))
-count_both _ _ = None
+abbrev pub counts_both : Option RowView → Option RowView → Option Bool
+counts_both (Some r) (Some s) = Some (counts (column_with (column_begun r) s))
+counts_both _ _ = None
 
-pub od_far_words : count_both (row_of (codes "80000000 00000000 00000000 00000000 00000000")) (row_of (codes "80000010 00000000 00000010 001c4404 00000001")) ≡ Some true
-unfolding row_of without_prefix parts_at parts_row marked_parts offset_parts piped_parts address_of decode_pairs
-od_far_words = refl
+abbrev pub Count : Bool → List ((List ℕ) × List ℕ) → Type 0
+Count is pairs =
+    map (λ p. counts_both (row_of p.0) (row_of p.1)) pairs ≡ replicate (length pairs) (Some is)
 
-pub od_octal_words : count_both (row_of (codes "10000000 00000000 00000000 00000000 00000000")) (row_of (codes "10000020 00000000 00000010 001c4404 00000001")) ≡ Some true
+pub columns :
+    -- of od in hexadecimal, octal and decimal digits, and where it filled up the last number
+    Count true ((
+      codes "80000000 00000000 00000000 00000000 00000000",
+      codes "80000010 00000000 00000010 001c4404 00000001",
+    )
+    ∷ (
+      codes "10000000 00000000 00000000 00000000 00000000",
+      codes "10000020 00000000 00000010 001c4404 00000001",
+    )
+    ∷ (
+      codes "20000000 00000000 00000000 00000000 00000000",
+      codes "20000016 00000000 00000010 001c4404 00000001",
+    )
+    ∷ (codes "80000020 00000000 40000000 00000000 00000000", codes "8000002e")
+    ∷ [])
+    × Count false (
+    (codes "00000000 00000000 00000000 00000000", codes "00000000 00000010 001c4404 00000001")
+    ∷ (codes "00000000", codes "00000000")
+    ∷ [])
 unfolding row_of without_prefix parts_at parts_row marked_parts offset_parts piped_parts address_of decode_pairs
-od_octal_words = refl
-
-pub od_decimal_words : count_both (row_of (codes "20000000 00000000 00000000 00000000 00000000")) (row_of (codes "20000016 00000000 00000010 001c4404 00000001")) ≡ Some true
-unfolding row_of without_prefix parts_at parts_row marked_parts offset_parts piped_parts address_of decode_pairs
-od_decimal_words = refl
-
-pub od_filled_words : count_both (row_of (codes "80000020 00000000 40000000 00000000 00000000")) (row_of (codes "8000002e")) ≡ Some true
-unfolding row_of without_prefix parts_at parts_row marked_parts offset_parts piped_parts address_of decode_pairs
-od_filled_words = refl
-
-pub od_bare_words : count_both (row_of (codes "00000000 00000000 00000000 00000000")) (row_of (codes "00000000 00000010 001c4404 00000001")) ≡ Some false
-unfolding row_of without_prefix parts_at parts_row marked_parts offset_parts piped_parts address_of decode_pairs
-od_bare_words = refl
-
-pub bare_words : count_both (row_of (codes "00000000")) (row_of (codes "00000000")) ≡ Some false
-unfolding row_of without_prefix parts_at parts_row marked_parts offset_parts piped_parts address_of decode_pairs
-bare_words = refl
-
--- groups whose order the column of text shows
-pub xxd_fours : read_row (codes "00000010: 00000000 10000000 04441c00 01000000  .........D......") ≡ Some (row_at Marked 0x10)
-unfolding row_of without_prefix parts_at parts_row marked_parts offset_parts piped_parts address_of decode_pairs
-xxd_fours = refl
-
-pub xxd_eights : read_row (codes "00000010: 0000000010000000 04441c0001000000  .........D......") ≡ Some (row_at Marked 0x10)
-unfolding row_of without_prefix parts_at parts_row marked_parts offset_parts piped_parts address_of decode_pairs
-xxd_eights = refl
-
-pub xxd_long_words : read_row (codes "00000010: 0000001000000000 00000001001c4404  .........D......") ≡ Some (row_at Marked 0x10)
-unfolding row_of without_prefix parts_at parts_row marked_parts offset_parts piped_parts address_of decode_pairs
-xxd_long_words = refl
-
--- the same in the column of od, between `>` and `<`
-pub od_shown : read_row (codes "000010 00000000 00000010 001c4404 00000001  >.........D......<") ≡ Some (row_at Offset 0x10)
-unfolding row_of without_prefix parts_at parts_row marked_parts offset_parts piped_parts address_of decode_pairs
-od_shown = refl
-
-pub od_big_endian : read_row (codes "000010 00000000 10000000 04441c00 01000000  >.........D......<") ≡ Some (row_at Offset 0x10)
-unfolding row_of without_prefix parts_at parts_row marked_parts offset_parts piped_parts address_of decode_pairs
-od_big_endian = refl
-
-pub od_long_big_endian : read_row (codes "000010 0000000010000000 04441c0001000000  >.........D......<") ≡ Some (row_at Offset 0x10)
-unfolding row_of without_prefix parts_at parts_row marked_parts offset_parts piped_parts address_of decode_pairs
-od_long_big_endian = refl
-
-pub od_half_big_endian : read_row (codes "000010 0000 0000 1000 0000 0444 1c00 0100 0000  >.........D......<") ≡ Some (row_at Offset 0x10)
-unfolding row_of without_prefix parts_at parts_row marked_parts offset_parts piped_parts address_of decode_pairs
-od_half_big_endian = refl
-
--- a column that shows either order
-pub od_either : read_row (codes "000000 00000000 00000001 00000000 00000000  >................<") ≡ Some (record { form = Offset; address = 0; bytes = None })
-unfolding row_of without_prefix parts_at parts_row marked_parts offset_parts piped_parts address_of decode_pairs
-od_either = refl
-
--- four bytes in a last row are no bits
-pub od_last_word : read_row (codes "000040 00000000                             >....<") ≡ Some (record { form = Offset; address = 0x40; bytes = Some (0 ∷ 0 ∷ 0 ∷ 0 ∷ []) })
-unfolding row_of without_prefix parts_at parts_row marked_parts offset_parts piped_parts address_of decode_pairs
-od_last_word = refl
-
--- the kernel's log, and debuggers
-pub kernel : read_row (codes "[   12.345678] scmi: 00000010: 00000000 00000010 001c4404 00000001  .........D......") ≡ Some (row_at Marked 0x10)
-unfolding row_of without_prefix parts_at parts_row marked_parts offset_parts piped_parts address_of decode_pairs
-kernel = refl
-
-pub j_link : read_row (codes "45000010 = 00000000 00000010 001C4404 00000001 ") ≡ Some (row_at Equals 0x45000010)
-unfolding row_of without_prefix parts_at parts_row marked_parts offset_parts piped_parts address_of decode_pairs
-j_link = refl
-
-pub j_link_halves : read_row (codes "45000010 = 0000 0000 0010 0000 4404 001C 0001 0000 ") ≡ Some (row_at Equals 0x45000010)
-unfolding row_of without_prefix parts_at parts_row marked_parts offset_parts piped_parts address_of decode_pairs
-j_link_halves = refl
-
-pub lauterbach : read_row (codes " NSD:45000010|>00000000 00000010 001C4404 00000001 .........D......") ≡ Some (row_at Marked 0x45000010)
-unfolding row_of without_prefix parts_at parts_row marked_parts offset_parts piped_parts address_of decode_pairs
-lauterbach = refl
-
-pub lauterbach_bytes : read_row (codes "  SD:45000010|00 00 00 00 10 00 00 00 04 44 1C 00 01 00 00 00 .........D......") ≡ Some (row_at Marked 0x45000010)
-unfolding row_of without_prefix parts_at parts_row marked_parts offset_parts piped_parts address_of decode_pairs
-lauterbach_bytes = refl
-
--- an address and a value
-pub devmem : read_row (codes "0x2e000018 0x001C4404") ≡ Some (record { form = Marked; address = 0x2E000018; bytes = Some (0x04 ∷ 0x44 ∷ 0x1C ∷ 0 ∷ []) })
-unfolding row_of without_prefix parts_at parts_row marked_parts offset_parts piped_parts address_of decode_pairs
-devmem = refl
+columns = (refl, refl)
 
 -- a number without leading zeros
 pub devmem2 : read_row (codes "Value at address 0x45000018 (0xffff8018): 0x1C4404") ≡ Some (record { form = Value; address = 0x45000018; bytes = Some (0x04 ∷ 0x44 ∷ 0x1C ∷ 0 ∷ []) })
 unfolding row_of without_prefix parts_at parts_row marked_parts offset_parts piped_parts address_of decode_pairs
 devmem2 = refl
-
--- groups of eight bytes without an address are numbers, as od prints them
-pub od_bare_longs : read_row (codes " 0000001000000000 00000001001c4404") ≡ Some (row_at Plain 0)
-unfolding row_of without_prefix parts_at parts_row marked_parts offset_parts piped_parts address_of decode_pairs
-od_bare_longs = refl
-
--- groups without a column of text may be bytes or numbers
-pub unclear : read_row (codes "00000010: 0000 0000 1000 0000 0444 1c00 0100 0000") ≡ Some (record { form = Marked; address = 0x10; bytes = None })
-unfolding row_of without_prefix parts_at parts_row marked_parts offset_parts piped_parts address_of decode_pairs
-unclear = refl
-
--- and so may those beside one that shows either
-pub either : read_row (codes "00000000: 00000000 00000001 00000000 00000000  ................") ≡ Some (record { form = Marked; address = 0; bytes = None })
-unfolding row_of without_prefix parts_at parts_row marked_parts offset_parts piped_parts address_of decode_pairs
-either = refl
-
--- what is no row
-pub prompt : read_row (codes "=> md.l 0x2e000000 0x47") ≡ None
-unfolding row_of without_prefix parts_at parts_row marked_parts offset_parts piped_parts address_of decode_pairs
-prompt = refl
-
--- bits, in a row and in a shorter one
-pub xxd_bits : read_row (codes "00000018: 00000100 01000100 00011100 00000000 00000001 00000000  .D....") ≡ None
-unfolding row_of without_prefix parts_at parts_row marked_parts offset_parts piped_parts address_of decode_pairs
-xxd_bits = refl
-
-pub xxd_last_bits : read_row (codes "0000007e: 00000000 00000000                                      ..") ≡ None
-unfolding row_of without_prefix parts_at parts_row marked_parts offset_parts piped_parts address_of decode_pairs
-xxd_last_bits = refl
 
 -- whether it is known how often `*` repeats the first row of a dump, and the second
 abbrev pub repeats_one : Option RowView → Option Bool
@@ -256,47 +166,51 @@ abbrev pub repeats_two : Option RowView → Option RowView → Option Bool
 repeats_two (Some r) (Some s) = Some (may_repeat r.form (extended (end_of r) s))
 repeats_two _ _ = None
 
--- of hexdump and od -A d, whose addresses have other bases, and of od
-pub one_row : repeats_one (row_of (codes "0000000 0000 0000 0000 0000 0000 0000 0000 0000")) ≡ Some false
-unfolding row_of without_prefix parts_at parts_row marked_parts offset_parts piped_parts address_of decode_pairs end_of
-one_row = refl
+abbrev pub Repeat : Bool → List ((List ℕ) × List ℕ) → Type 0
+Repeat is pairs =
+    map (λ p. repeats_two (row_of p.0) (row_of p.1)) pairs ≡ replicate (length pairs) (Some is)
 
-pub two_rows : repeats_two (row_of (codes "0000000 0000 0000 0000 0000 0000 0000 0000 0000")) (row_of (codes "0000020 0000 0000 0010 0000 4404 001c 0001 0000")) ≡ Some true
+pub repeated :
+    -- of hexdump and od -A d, whose addresses have other bases, and of od
+    (repeats_one (row_of (codes "0000000 0000 0000 0000 0000 0000 0000 0000 0000")) ≡ Some false)
+    × Repeat true ((
+      codes "0000000 0000 0000 0000 0000 0000 0000 0000 0000",
+      codes "0000020 0000 0000 0010 0000 4404 001c 0001 0000",
+    )
+    ∷ (
+      codes "80000000 00000000 00000000 00000000 00000000",
+      codes "80000010 00000000 00000010 001c4404 00000001",
+    )
+    ∷ [])
+    -- rows of eight bytes, whose addresses may be decimal, and rows that have none
+    × Repeat false ((
+      codes "00000000: 0000 0000 0000 0000  ........",
+      codes "00000008: 0000 0000 0000 0000  ........",
+    )
+    ∷ (codes "10000000 00000000 00000000", codes "10000008 00000000 00000000")
+    ∷ (
+      codes "00 00 00 00 00 00 00 00 00 00 00 00 00 00 00 00",
+      codes "00 00 00 00 10 00 00 00 04 44 1c 00 01 00 00 00",
+    )
+    ∷ [])
 unfolding row_of without_prefix parts_at parts_row marked_parts offset_parts piped_parts address_of decode_pairs end_of extended
-two_rows = refl
-
--- rows of eight bytes, whose addresses may be decimal, and rows that are none
-pub eight_bytes : repeats_two (row_of (codes "00000000: 0000 0000 0000 0000  ........")) (row_of (codes "00000008: 0000 0000 0000 0000  ........")) ≡ Some false
-unfolding row_of without_prefix parts_at parts_row marked_parts offset_parts piped_parts address_of decode_pairs end_of extended
-eight_bytes = refl
-
-pub eight_words : repeats_two (row_of (codes "10000000 00000000 00000000")) (row_of (codes "10000008 00000000 00000000")) ≡ Some false
-unfolding row_of without_prefix parts_at parts_row marked_parts offset_parts piped_parts address_of decode_pairs end_of extended
-eight_words = refl
-
-pub far_words : repeats_two (row_of (codes "80000000 00000000 00000000 00000000 00000000")) (row_of (codes "80000010 00000000 00000010 001c4404 00000001")) ≡ Some true
-unfolding row_of without_prefix parts_at parts_row marked_parts offset_parts piped_parts address_of decode_pairs end_of extended
-far_words = refl
-
-pub bytes_alone : repeats_two (row_of (codes "00 00 00 00 00 00 00 00 00 00 00 00 00 00 00 00")) (row_of (codes "00 00 00 00 10 00 00 00 04 44 1c 00 01 00 00 00")) ≡ Some false
-unfolding row_of without_prefix parts_at parts_row marked_parts offset_parts piped_parts address_of decode_pairs end_of extended
-bytes_alone = refl
+repeated = (refl, refl, refl)
 
 -- an address alone before 36 bytes, before 32, and words alone
-abbrev pub is_wide : List ℕ → Bool
-is_wide line = is_wide_row (slice_split is_gap line)
+abbrev pub AreWide : Bool → List (List ℕ) → Type 0
+AreWide are lines =
+    map (λ line. is_wide_row (slice_split is_gap line)) lines ≡ replicate (length lines) are
 
-pub od_wide : is_wide (codes "10000000 0000000000000000 0000001000000000 00000001001c4404 4000000000000000 00000000") ≡ true
-od_wide = refl
-
-pub od_octal_wide : is_wide (codes "0000000 00000000 00000000 00000000 00000000 00000000 00000010 001c4404 00000001 00000000") ≡ true
-od_octal_wide = refl
-
-pub od_not_wide : is_wide (codes "10000000 0000000000000000 0000001000000000 00000001001c4404 4000000000000000") ≡ false
-od_not_wide = refl
-
-pub words_alone : is_wide (codes "00000000 00000000 00000000 00000000 00000000 00000010 001c4404 00000001 00000000 40000000") ≡ false
-words_alone = refl
+pub wide_rows :
+    AreWide true (
+    codes "10000000 0000000000000000 0000001000000000 00000001001c4404 4000000000000000 00000000"
+    ∷ codes "0000000 00000000 00000000 00000000 00000000 00000000 00000010 001c4404 00000001 00000000"
+    ∷ [])
+    × AreWide false (
+    codes "10000000 0000000000000000 0000001000000000 00000001001c4404 4000000000000000"
+    ∷ codes "00000000 00000000 00000000 00000000 00000000 00000010 001c4404 00000001 00000000 40000000"
+    ∷ [])
+wide_rows = (refl, refl)
 
 -- words, and bytes as xxd -p prints them
 abbrev pub eight_area_words : List ℕ
@@ -319,106 +233,66 @@ abbrev pub sixty_four_bytes : List ℕ
 sixty_four_bytes = sixty_bytes ++ codes "00000000"
 
 -- why a wide row and the line behind it are refused
-abbrev pub lack_of_pair : Layout → (row line : List ℕ) → Option NoBytes
-lack_of_pair l row line = pair_lack l (held_row 1 row None) line
+abbrev pub LackOf : Layout → Option NoBytes → List ((List ℕ) × List ℕ) → Type 0
+LackOf l why pairs = map (λ p. pair_lack l (held_row 1 p.0 None) p.1) pairs ≡ replicate (length pairs) why
 
--- of od after addresses of eight digits in hexadecimal, octal and
--- decimal digits, and after one of seven digits
-pub od_wide_rows : lack_of_pair Whole (codes "10000000" ++ eight_zeros) (codes "10000020" ++ eight_area_words)
-    ≡ Some lack.WideRow
-unfolding decode_pairs
-od_wide_rows = refl
-
-pub od_octal_rows : lack_of_pair Whole (codes "10000000" ++ eight_zeros) (codes "10000040" ++ eight_area_words)
-    ≡ Some lack.WideRow
-unfolding decode_pairs
-od_octal_rows = refl
-
-pub od_decimal_rows : lack_of_pair Whole (codes "20000000" ++ eight_zeros) (codes "20000032" ++ eight_area_words)
-    ≡ Some lack.WideRow
-unfolding decode_pairs
-od_decimal_rows = refl
-
-pub od_longer_address : lack_of_pair Whole (codes "fffffe0" ++ eight_zeros) (codes "10000000" ++ eight_area_words)
-    ≡ Some lack.WideRow
-unfolding decode_pairs
-od_longer_address = refl
-
--- the last line of od, which filled up the last number, also beside a size of areas
 abbrev pub areas_of_60 : Layout
 areas_of_60 = Each (record { offset = 0; words = 8; gap = 0 })
 
-pub od_wide_end : lack_of_pair areas_of_60 (codes "10000000" ++ eight_area_words) (codes "1000001e")
-    ≡ Some lack.WideRow
+pub pairs :
+    -- of od after addresses of eight digits in hexadecimal, octal and
+    -- decimal digits, and after one of seven digits
+    LackOf Whole (Some lack.WideRow) (
+    (codes "10000000" ++ eight_zeros, codes "10000020" ++ eight_area_words)
+    ∷ (codes "10000000" ++ eight_zeros, codes "10000040" ++ eight_area_words)
+    ∷ (codes "20000000" ++ eight_zeros, codes "20000032" ++ eight_area_words)
+    ∷ (codes "fffffe0" ++ eight_zeros, codes "10000000" ++ eight_area_words)
+    ∷ [])
+    -- the last line of od, which filled up the last number, also beside a size of areas
+    × LackOf areas_of_60 (Some lack.WideRow) (
+    (codes "10000000" ++ eight_area_words, codes "1000001e") ∷ [])
+    -- words without addresses: two rows, and a row and the rest of an area; 284 bytes as numbers of 64 bits,
+    -- of which od fills up the last; and 64 and 60 bytes
+    × LackOf Whole (Some lack.Part) (
+    (eight_area_words ++ eight_zeros, eight_zeros ++ eight_zeros)
+    ∷ (eight_area_words ++ eight_zeros, codes "40000000 00000000")
+    ∷ (six_longs ++ six_longs ++ six_longs, six_longs ++ six_longs ++ six_longs)
+    ∷ (sixty_four_bytes, sixty_bytes)
+    ∷ [])
+    -- rows where areas have a size; 60 bytes and 64, and bytes and a blank line
+    × LackOf areas_of_60 None (
+    (eight_area_words ++ eight_zeros, eight_zeros ++ eight_zeros) ∷ [])
+    × LackOf Whole None (
+    (sixty_bytes, sixty_four_bytes)
+    ∷ (sixty_four_bytes, codes " ")
+    ∷ [])
 unfolding decode_pairs
-od_wide_end = refl
+pairs = (refl, refl, refl, refl, refl)
 
--- words without addresses: two rows, and a row and the rest of an area, unless areas have a size
-pub od_wide_parts : lack_of_pair Whole (eight_area_words ++ eight_zeros) (eight_zeros ++ eight_zeros)
-    ≡ Some lack.Part
-unfolding decode_pairs
-od_wide_parts = refl
-
-pub od_wide_rest : lack_of_pair Whole (eight_area_words ++ eight_zeros) (codes "40000000 00000000")
-    ≡ Some lack.Part
-unfolding decode_pairs
-od_wide_rest = refl
-
-pub od_wide_areas : lack_of_pair areas_of_60 (eight_area_words ++ eight_zeros) (eight_zeros ++ eight_zeros)
-    ≡ None
-unfolding decode_pairs
-od_wide_areas = refl
-
--- 284 bytes as numbers of 64 bits, of which od fills up the last
-pub od_wide_longs :
-    lack_of_pair Whole (six_longs ++ six_longs ++ six_longs) (six_longs ++ six_longs ++ six_longs)
-    ≡ Some lack.Part
-unfolding decode_pairs
-od_wide_longs = refl
-
--- 64 and 60 bytes, 60 and 64, and bytes and a blank line
-pub xxd_wide_parts : lack_of_pair Whole sixty_four_bytes sixty_bytes ≡ Some lack.Part
-unfolding decode_pairs
-xxd_wide_parts = refl
-
-pub xxd_wide_areas : lack_of_pair Whole sixty_bytes sixty_four_bytes ≡ None
-unfolding decode_pairs
-xxd_wide_areas = refl
-
-pub xxd_wide_blank : lack_of_pair Whole sixty_four_bytes (codes " ") ≡ None
-unfolding decode_pairs
-xxd_wide_blank = refl
-
--- sizes whose sum is that of the longest area, and more; and both from an offset on
-pub longest_parts : may_be_parts Whole 0 (Some 142) (Some 142) ≡ true
-longest_parts = refl
-
-pub longer_areas : may_be_parts Whole 3 (Some 144) (Some 144) ≡ false
-longer_areas = refl
-
-pub longest_parts_behind : may_be_parts (From 16) 3 (Some 156) (Some 144) ≡ true
-longest_parts_behind = refl
+pub part_sizes :
+    -- sizes whose sum is that of the longest area, and more; and both from an offset on
+    (may_be_parts Whole 0 (Some 142) (Some 142) ≡ true)
+    × (may_be_parts Whole 3 (Some 144) (Some 144) ≡ false)
+    × (may_be_parts (From 16) 3 (Some 156) (Some 144) ≡ true)
+part_sizes = (refl, refl, refl)
 
 -- the address at which a line ends a dump of one row
 abbrev pub ends_at : (line end : List ℕ) → Option (Option ℕ)
 ends_at line end = option_map (λ r. end_at (begun (no_dump Whole) 1 r) end) (row_of line)
 
-pub od_longs_end : ends_at (codes "000110 0000000000000000 0000000000000000") (codes "00011c") ≡ Some (Some 0x11C)
-unfolding row_of without_prefix parts_at parts_row marked_parts offset_parts piped_parts address_of decode_pairs begun end_of is_filled_from line_end end_at
-od_longs_end = refl
+abbrev pub NoEnd : List ((List ℕ) × List ℕ) → Type 0
+NoEnd pairs = map (λ p. ends_at p.0 p.1) pairs ≡ replicate (length pairs) (Some None)
 
-pub od_longs_octal_end : ends_at (codes "0000420 0000000000000000 0000000000000000") (codes "0000434") ≡ Some (Some 284)
+pub ends :
+    (ends_at (codes "000110 0000000000000000 0000000000000000") (codes "00011c") ≡ Some (Some 0x11C))
+    × (ends_at (codes "0000420 0000000000000000 0000000000000000") (codes "0000434") ≡ Some (Some 284))
+    -- an end before the last number, and bytes behind the end
+    × NoEnd (
+    (codes "000110 0000000000000000 0000000000000000", codes "000118")
+    ∷ (codes "000110 0000000000000000 0000000100000000", codes "00011c")
+    ∷ [])
 unfolding row_of without_prefix parts_at parts_row marked_parts offset_parts piped_parts address_of decode_pairs begun end_of is_filled_from line_end end_at
-od_longs_octal_end = refl
-
--- an end before the last number, and bytes behind the end
-pub od_early_end : ends_at (codes "000110 0000000000000000 0000000000000000") (codes "000118") ≡ Some None
-unfolding row_of without_prefix parts_at parts_row marked_parts offset_parts piped_parts address_of decode_pairs begun end_of is_filled_from line_end end_at
-od_early_end = refl
-
-pub od_bytes_behind : ends_at (codes "000110 0000000000000000 0000000100000000") (codes "00011c") ≡ Some None
-unfolding row_of without_prefix parts_at parts_row marked_parts offset_parts piped_parts address_of decode_pairs begun end_of is_filled_from line_end end_at
-od_bytes_behind = refl
+ends = (refl, refl, refl)
 
 -- the lines that devmem2 prints beside each number
 pub devmem2_opened : is_remark (codes "/dev/mem opened.") ≡ true

@@ -30,19 +30,16 @@ pub reply : frame_told (codes "scmi_msg_dump: pt=11 t=RESP msg_id=04 seq=0007 s=
 unfolding event_area event_header event_payload signed_word message_area message_start words_at decode_pairs
 reply = refl
 
-pub reply_taken : waiting_told (codes "scmi_msg_dump: pt=11 t=RESP msg_id=04 seq=0007 s=-3 pyld=") ≡ Some None
-unfolding event_area event_header event_payload signed_word message_area message_start words_at decode_pairs
-reply_taken = refl
-
--- its delayed response, whose payload begins with the status
-pub delayed : waiting_told (codes "scmi_msg_dump: pt=11 t=DLYD msg_id=04 seq=0007 s=0 pyld=0000000000000040") ≡ Some (Some (Good (message_of 0x001C4604 (0 ∷ 0 ∷ 0x40000000 ∷ []))))
-unfolding event_area event_header event_payload signed_word message_area message_start words_at decode_pairs
-delayed = refl
-
+-- which its agent has taken; its delayed response, whose payload begins with the status; and
 -- POWER_STATE_CHANGED, caused by agent 1
-pub notification : waiting_told (codes "scmi_msg_dump: pt=11 t=NOTI msg_id=00 seq=0000 s=0 pyld=010000000000000000000000") ≡ Some (Some (Good (message_of 0x00004700 (1 ∷ 0 ∷ 0 ∷ []))))
-unfolding event_area event_header event_payload message_area message_start words_at decode_pairs
-notification = refl
+pub others :
+    (waiting_told (codes "scmi_msg_dump: pt=11 t=RESP msg_id=04 seq=0007 s=-3 pyld=") ≡ Some None)
+    × (waiting_told (codes "scmi_msg_dump: pt=11 t=DLYD msg_id=04 seq=0007 s=0 pyld=0000000000000040")
+    ≡ Some (Some (Good (message_of 0x001C4604 (0 ∷ 0 ∷ 0x40000000 ∷ [])))))
+    × (waiting_told (codes "scmi_msg_dump: pt=11 t=NOTI msg_id=00 seq=0000 s=0 pyld=010000000000000000000000")
+    ≡ Some (Some (Good (message_of 0x00004700 (1 ∷ 0 ∷ 0 ∷ [])))))
+unfolding event_area event_header event_payload signed_word message_area message_start words_at decode_pairs
+others = (refl, refl, refl)
 
 -- a token of more than 10 bits
 pub large_token : alone_bytes (codes "scmi_msg_dump: pt=11 t=CMND msg_id=04 seq=0400 s=0 pyld=") ≡ None

@@ -5,11 +5,11 @@ use Rattle.std.specs.List.{slice_split}
 use Rattle.std.proofs.lemmas.Bool.Decides.{nat_tests}
 use Rattle.std.proofs.lemmas.List.{length-append}
 use Rattle.scmi_io.specs.Lines.{is_line_feed}
-use Rattle.scmi_decode.specs.DumpEnd.{EndView, bytes_before, column_begun, column_with, cut, emptied, end_of, extended, filled, lacks_rows}
+use Rattle.scmi_decode.specs.DumpEnd.{EndView, bytes_before, column_with, cut, emptied, end_of, extended, filled, lacks_rows}
 use Rattle.scmi_decode.specs.OpenDump.{DumpView, no_dump, added, begun, closed, dump_found, end_at, ended, goes_on, is_open, is_star, judged}
 use Rattle.scmi_decode.specs.Finding.{dump_findings}
-use Rattle.scmi_decode.specs.HeldRow.{is_held, released}
 use Rattle.scmi_decode.specs.Reported.{Reported}
+use Rattle.scmi_decode.specs.HeldRow.{is_held, released}
 use Rattle.scmi_decode.specs.declared.finding.Finding.{Finding}
 use Rattle.scmi_decode.specs.declared.layout.Layout.{Layout}
 use Rattle.scmi_decode.specs.Row.{RowView}
@@ -39,37 +39,17 @@ filled-none : (e : EndView) (address : ℕ) → lacks_rows e ≡ false → fille
 unfolding filled
 filled-none e address none = rw (or_none e.unclear e.repeats none).1 refl
 
-added-is : (d : DumpView) (r : RowView) → lacks_rows d.end ≡ false
-    → added d r ≡ record d { end = extended d.end r }
-unfolding added
-added-is d r none =
-    ap (λ (e : EndView). record d { end = extended e r }) (filled-none d.end r.address none)
+-- a dump that goes on with a row, if no row is left out before it
+abbrev grown : DumpView → RowView → DumpView
+grown d r = record d { end = extended d.end r }
 
-added-cells : (d : DumpView) (r : RowView) → lacks_rows d.end ≡ false
-    → (added d r).end.cells ≡ d.end.cells ++ r.cells
+added-is : (d : DumpView) (r : RowView) → lacks_rows d.end ≡ false → added d r ≡ grown d r
+unfolding added
+added-is d r none = ap (λ (e : EndView). record d { end = extended e r }) (filled-none d.end r.address none)
+
+grown-open : (d : DumpView) (r : RowView) → is_open d ≡ true → is_open (grown d r) ≡ true
 unfolding extended
-added-cells d r none = ap (λ (v : DumpView). v.end.cells) (added-is d r none)
-
-added-first : (d : DumpView) (r : RowView) → (added d r).first ≡ d.first
-unfolding added
-added-first d r = refl
-
-added-none : (d : DumpView) (r : RowView) → lacks_rows d.end ≡ false
-    → lacks_rows (added d r).end ≡ false
-unfolding extended
-added-none d r none = ap (λ (v : DumpView). lacks_rows v.end) (added-is d r none) ∙ none
-
-added-alone : (d : DumpView) (r : RowView) → is_held d.held ≡ false
-    → is_held (added d r).held ≡ false
-unfolding added
-added-alone d r alone = alone
-
-added-open : (d : DumpView) (r : RowView) → is_open d ≡ true → lacks_rows d.end ≡ false
-    → is_open (added d r) ≡ true
-added-open d r open_now none =
-    let size : length (added d r).end.cells ≡ length d.end.cells + length r.cells =
-    ap length (added-cells d r none) ∙ length-append d.end.cells r.cells in
-    grind (arith, nat_tests, size)
+grown-open d r open_now = let size = length-append d.end.cells r.cells in grind (arith, nat_tests, size)
 
 closed-found : (d : DumpView) → dump_found (closed d) ≡ []
 unfolding closed emptied released
@@ -82,24 +62,6 @@ empty-found d n = ap (λ (t : List Finding). dump_found d ++ t) (closed-found d)
 -- what is found in cells in an order, after a number, beside a first column
 abbrev cells_found : Layout → ℕ → Order → FirstColumn → List Cell → List Finding
 cells_found l n o c cells = dump_findings l n (lack_beside c) (bytes_beside c o cells)
-
-added-order : (d : DumpView) (r : RowView) → lacks_rows d.end ≡ false
-    → (added d r).end.order ≡ d.end.order
-unfolding extended
-added-order d r none = ap (λ (v : DumpView). v.end.order) (added-is d r none)
-
-added-column : (d : DumpView) (r : RowView) → lacks_rows d.end ≡ false
-    → (added d r).end.column ≡ column_with d.end.column r
-unfolding extended
-added-column d r none = ap (λ (v : DumpView). v.end.column) (added-is d r none)
-
-added-next : (d : DumpView) (r : RowView) → (added d r).end.next ≡ rows_next 0 (r ∷ [])
-unfolding added extended
-added-next d r = refl
-
-added-layout : (d : DumpView) (r : RowView) → (added d r).layout ≡ d.layout
-unfolding added
-added-layout d r = refl
 
 open-found : (d : DumpView) → is_held d.held ≡ false → is_open d ≡ true → lacks_rows d.end ≡ false
     → dump_found d ≡ cells_found d.layout d.first d.end.order d.end.column (d.end.cells ++ [])
@@ -142,6 +104,7 @@ ended-found d address alone none some =
 
 found_in_rows : (d : DumpView) (n : ℕ) (rows : List RowView) (end : Option ℕ) (lines : List (List ℕ)) → is_held d.held ≡ false → is_open d ≡ true → lacks_rows d.end ≡ false → AreRows d rows end lines
     → lines_found d n lines ≡ cells_found d.layout d.first d.end.order (rows_column d.end.column rows) (cells_to end (rows_next d.end.next rows) (d.end.cells ++ rows_cells rows))
+unfolding extended
 found_in_rows d n [] None lines alone open_now none are = end-found d n lines are ∙ open-found d alone open_now none
 found_in_rows d n [] (Some address) [] alone open_now none are = absurd are
 found_in_rows d n [] (Some address) (line ∷ lines) alone open_now none are =
@@ -153,19 +116,14 @@ found_in_rows d n [] (Some address) (line ∷ lines) alone open_now none are =
     ∙ ap (λ (cs : List Cell). cells_found d.layout d.first d.end.order d.end.column (take (length cs - (d.end.next - address)) cs)) (sym (append-nil d.end.cells))
 found_in_rows d n (r ∷ rows) end [] alone open_now none are = absurd are
 found_in_rows d n (r ∷ rows) end (line ∷ lines) alone open_now none are =
-    let here : step_found d n line ≡ [] = step_found-row d n line r alone are.0 in
-    let after : dump_after d n line ≡ added d r = dump_after-row d n line r alone are.0 in
-    let rest = found_in_rows (added d r) (n + 1) rows end lines (added-alone d r alone) (added-open d r open_now none) (added-none d r none) are.1 in
-    let all : List Cell = (added d r).end.cells ++ rows_cells rows in
-    let cells : all ≡ d.end.cells ++ (r.cells ++ rows_cells rows) =
-    ap (λ (cs : List Cell). cs ++ rows_cells rows) (added-cells d r none) ∙ append_assoc d.end.cells r.cells (rows_cells rows) in
-    ap (λ (t : List Finding). t ++ lines_found (dump_after d n line) (n + 1) lines) here ∙ ap (λ (v : DumpView). lines_found v (n + 1) lines) after
-    ∙ rest ∙ ap (λ (k : ℕ). cells_found (added d r).layout k (added d r).end.order (rows_column (added d r).end.column rows) (cells_to end (rows_next (added d r).end.next rows) all)) (added-first d r)
-    ∙ ap (λ (o : Order). cells_found (added d r).layout d.first o (rows_column (added d r).end.column rows) (cells_to end (rows_next (added d r).end.next rows) all)) (added-order d r none)
-    ∙ ap (λ (l : Layout). cells_found l d.first d.end.order (rows_column (added d r).end.column rows) (cells_to end (rows_next (added d r).end.next rows) all)) (added-layout d r)
-    ∙ ap (λ (c : FirstColumn). cells_found d.layout d.first d.end.order (rows_column c rows) (cells_to end (rows_next (added d r).end.next rows) all)) (added-column d r none)
-    ∙ ap (λ (k : ℕ). cells_found d.layout d.first d.end.order (rows_column (column_with d.end.column r) rows) (cells_to end (rows_next k rows) all)) (added-next d r)
-    ∙ ap (λ (cs : List Cell). cells_found d.layout d.first d.end.order (rows_column (column_with d.end.column r) rows) (cells_to end (rows_next (rows_next 0 (r ∷ [])) rows) cs)) cells
+    let v : DumpView = grown d r in
+    let same : added d r ≡ v = added-is d r none in
+    let are_v = subst (λ (w : DumpView). AreRows w rows end lines) same are.1 in
+    ap (λ (t : List Finding). t ++ lines_found (dump_after d n line) (n + 1) lines) (step_found-row d n line r alone are.0)
+    ∙ ap (λ (w : DumpView). lines_found w (n + 1) lines) (dump_after-row d n line r alone are.0 ∙ same)
+    ∙ found_in_rows v (n + 1) rows end lines alone (grown-open d r open_now) none are_v
+    ∙ ap (λ (cs : List Cell). cells_found d.layout d.first d.end.order (rows_column (column_with d.end.column r) rows) (cells_to end (rows_next d.end.next (r ∷ rows)) cs))
+    (append_assoc d.end.cells r.cells (rows_cells rows))
 
 first_found : (l : Layout) (line : List ℕ) (r : RowView) → IsRow line r → step_found (no_dump l) 1 line ≡ []
 unfolding step_found is_star end_at goes_on judged
@@ -175,54 +133,13 @@ first_dump : (l : Layout) (line : List ℕ) (r : RowView) → IsRow line r → d
 unfolding dump_after is_star end_at goes_on closed emptied judged released
 first_dump l line r is = rw (is.no_remark, is.not_empty, is.row) refl
 
-begun-open : (l : Layout) (r : RowView) → (length r.cells == 0) ≡ false → is_open (begun (no_dump l) 1 r) ≡ true
-unfolding begun end_of
-begun-open l r some = ap not some
-
-begun-alone : (l : Layout) (r : RowView) → is_held (begun (no_dump l) 1 r).held ≡ false
-unfolding begun
-begun-alone l r = refl
-
-begun-cells : (l : Layout) (r : RowView) → (begun (no_dump l) 1 r).end.cells ≡ r.cells
-unfolding begun end_of
-begun-cells l r = refl
-
-begun-first : (l : Layout) (r : RowView) → (begun (no_dump l) 1 r).first ≡ 1
-unfolding begun end_of
-begun-first l r = refl
-
-begun-none : (l : Layout) (r : RowView) → lacks_rows (begun (no_dump l) 1 r).end ≡ false
-unfolding begun end_of
-begun-none l r = refl
-
-begun-order : (l : Layout) (r : RowView) → (begun (no_dump l) 1 r).end.order ≡ r.order
-unfolding begun end_of
-begun-order l r = refl
-
-begun-column : (l : Layout) (r : RowView) → (begun (no_dump l) 1 r).end.column ≡ column_begun r
-unfolding begun end_of
-begun-column l r = refl
-
-begun-next : (l : Layout) (r : RowView) → (begun (no_dump l) 1 r).end.next ≡ rows_next 0 (r ∷ [])
-unfolding begun end_of
-begun-next l r = refl
-
-begun-layout : (l : Layout) (r : RowView) → (begun (no_dump l) 1 r).layout ≡ l
-unfolding begun end_of
-begun-layout l r = refl
-
 found_in_dump : (l : Layout) (rows : List RowView) (end : Option ℕ) (lines : List (List ℕ)) → IsDumpOf l rows end lines → lines_found (no_dump l) 1 lines ≡ dump_findings l 1 (rows_lack rows) (rows_bytes rows end)
+unfolding begun end_of
 found_in_dump l (r ∷ rows) end (line ∷ lines) is =
     let d : DumpView = begun (no_dump l) 1 r in
-    let rest = found_in_rows d 2 rows end lines (begun-alone l r) (begun-open l r is.0.has_cells) (begun-none l r) is.1 in
     ap (λ (t : List Finding). t ++ lines_found (dump_after (no_dump l) 1 line) 2 lines) (first_found l line r is.0)
     ∙ ap (λ (v : DumpView). lines_found v 2 lines) (first_dump l line r is.0)
-    ∙ rest ∙ ap (λ (k : ℕ). cells_found d.layout k d.end.order (rows_column d.end.column rows) (cells_to end (rows_next d.end.next rows) (d.end.cells ++ rows_cells rows))) (begun-first l r)
-    ∙ ap (λ (o : Order). cells_found d.layout 1 o (rows_column d.end.column rows) (cells_to end (rows_next d.end.next rows) (d.end.cells ++ rows_cells rows))) (begun-order l r)
-    ∙ ap (λ (m : Layout). cells_found m 1 r.order (rows_column d.end.column rows) (cells_to end (rows_next d.end.next rows) (d.end.cells ++ rows_cells rows))) (begun-layout l r)
-    ∙ ap (λ (c : FirstColumn). cells_found l 1 r.order (rows_column c rows) (cells_to end (rows_next d.end.next rows) (d.end.cells ++ rows_cells rows))) (begun-column l r)
-    ∙ ap (λ (k : ℕ). cells_found l 1 r.order (rows_column (column_begun r) rows) (cells_to end (rows_next k rows) (d.end.cells ++ rows_cells rows))) (begun-next l r)
-    ∙ ap (λ (cs : List Cell). cells_found l 1 r.order (rows_column (column_begun r) rows) (cells_to end (rows_next (rows_next 0 (r ∷ [])) rows) (cs ++ rows_cells rows))) (begun-cells l r)
+    ∙ found_in_rows d 2 rows end lines refl (ap not is.0.has_cells) refl is.1
 found_in_dump l [] end lines is = absurd is
 found_in_dump l (r ∷ rows) end [] is = absurd is
 

@@ -8,63 +8,49 @@ use Rattle.scmi_codec.specs.declared.status.Status.{Status}
 use Rattle.scmi_codec.specs.declared.status.Status.TheVariants.{Success}
 use Rattle.scmi_codec.specs.declared.frame.Frame.{Frame}
 use Rattle.scmi_codec.specs.declared.frame.Frame.TheVariants.{Good, Malformed}
-use Rattle.scmi_decode.specs.Alike.{state_of, StandAlike}
 use Rattle.scmi_decode.specs.Replies.{response_status}
 use Rattle.scmi_decode.specs.Description.{described_area, described_by_status, described_left, described_p2a, described_posted, described_response}
+use Rattle.scmi_decode.specs.Alike.{state_of, StandAlike}
 use Rattle.scmi_decode.specs.declared.description.Description.{Description}
 use Rattle.scmi_decode.specs.declared.description.Description.TheVariants as is
-
--- the frame of a description
-abbrev frame_in : Description → Frame
-frame_in is.Unused = Malformed 0 0
-frame_in (is.Command m r) = Good m
-frame_in (is.Withdrawn m r) = Good m
-frame_in (is.Reply m) = Good m
-frame_in (is.Refusal m s) = Good m
-frame_in (is.Delayed free m) = Good m
-frame_in (is.Notification free m) = Good m
-frame_in (is.ChannelError f) = f
-frame_in (is.Malformed free len header) = Malformed len header
-frame_in (is.Foreign free m) = Good m
 
 abbrev by_free : Bool → ℕ
 by_free free = if free then 1 else 0
 
--- the state of the channel of a description
-abbrev state_in : Description → ℕ
-state_in is.Unused = 1
-state_in (is.Command m r) = 0
-state_in (is.Withdrawn m r) = 1
-state_in (is.Reply m) = 1
-state_in (is.Refusal m s) = 1
-state_in (is.Delayed free m) = by_free free
-state_in (is.Notification free m) = by_free free
-state_in (is.ChannelError f) = 3
-state_in (is.Malformed free len header) = by_free free
-state_in (is.Foreign free m) = by_free free
+-- the state of the channel of a description, and its frame
+abbrev held_in : Description → ℕ × Frame
+held_in is.Unused = (1, Malformed 0 0)
+held_in (is.Command m r) = (0, Good m)
+held_in (is.Withdrawn m r) = (1, Good m)
+held_in (is.Reply m) = (1, Good m)
+held_in (is.Refusal m s) = (1, Good m)
+held_in (is.Delayed free m) = (by_free free, Good m)
+held_in (is.Notification free m) = (by_free free, Good m)
+held_in (is.ChannelError f) = (3, f)
+held_in (is.Malformed free len header) = (by_free free, Malformed len header)
+held_in (is.Foreign free m) = (by_free free, Good m)
 
 -- the description of a frame in a channel of this state
 abbrev described_at : ℕ → Frame → Description
 described_at n f = if n == 0 then described_posted f else described_left (n == 3) f
 
--- the frame and the state of a description
 abbrev Has : ℕ → Frame → Description → Type 0
-Has n f d = (frame_in d ≡ f) × (state_in d ≡ n)
+Has n f d = held_in d ≡ (n, f)
 
 p2a-has : (free : Bool) (m : Message) → Has (by_free free) (Good m) (described_p2a free m)
 p2a-has free m = by_kind (m.header.kind == 2) (m.header.kind == 3)
   where
     by_kind : (a b : Bool) → Has (by_free free) (Good m) (if a then is.Delayed free m else if b then is.Notification free m else is.Foreign free m)
-    by_kind true b = (refl, refl)
-    by_kind false true = (refl, refl)
-    by_kind false false = (refl, refl)
+    by_kind true b = refl
+    by_kind false true = refl
+    by_kind false false = refl
 
 posted-has : (f : Frame) → Has 0 f (described_posted f)
-posted-has (Malformed len header) = (refl, refl)
+posted-has (Malformed len header) = refl
 posted-has (Good m) = by_kind (m.header.kind == 0)
   where
     by_kind : (a : Bool) → Has 0 (Good m) (if a then is.Command m (command_of m) else described_p2a false m)
-    by_kind true = (refl, refl)
+    by_kind true = refl
     by_kind false = p2a-has false m
 
 free-has : (f : Frame) → Has 1 f (described_left false f)
@@ -74,15 +60,15 @@ free-has (Malformed len header) = by_zeros (len == 0) (header == 0) refl refl
     by_zeros true true ha hb =
         let no_length : 0 ≡ len = grind (arith, nat_tests) in
         let no_header : 0 ≡ header = grind (arith, nat_tests) in
-        (λ j. Malformed (no_length j) (no_header j), refl)
-    by_zeros true false ha hb = (refl, refl)
-    by_zeros false b ha hb = (refl, refl)
+        λ j. (1, Malformed (no_length j) (no_header j))
+    by_zeros true false ha hb = refl
+    by_zeros false b ha hb = refl
 free-has (Good m) = by_kind (m.header.kind == 0)
   where
     by_status : (o : Option Status) → Has 1 (Good m) (described_by_status m o)
-    by_status None = (refl, refl)
-    by_status (Some Success) = (refl, refl)
-    by_status (Some s) = (refl, refl)
+    by_status None = refl
+    by_status (Some Success) = refl
+    by_status (Some s) = refl
 
     by_kind : (a : Bool) → Has 1 (Good m) (if a then described_response m else described_p2a true m)
     by_kind true = by_status (response_status m)
@@ -98,7 +84,7 @@ abbrev IsOfArea : List ℕ → Type 0
 IsOfArea area = (described_area area ≡ described_at (state_of area) (frame_of area)) × Has (state_of area) (frame_of area) (described_area area)
 
 by_bits : (area : List ℕ) (odd error : Bool) → (status_at area % 2 == 1) ≡ odd → (status_at area / 2 % 2 == 1) ≡ error → IsOfArea area
-by_bits area true true odd error = rw (odd, error, low_bits (status_at area) odd error) (refl, (refl, refl))
+by_bits area true true odd error = rw (odd, error, low_bits (status_at area) odd error) (refl, refl)
 by_bits area true false odd error = rw (odd, error, low_bit (status_at area) odd error) (refl, free-has (frame_of area))
 by_bits area false error odd _ = rw odd (refl, posted-has (frame_of area))
 
@@ -113,11 +99,8 @@ described_from_alike a b same =
 -- areas with the same description have the same frame, and their channels are in the same state
 pub alike_from_described : (a b : List ℕ) → described_area a ≡ described_area b → StandAlike a b
 alike_from_described a b e =
-    let (frame_a, state_a) = (is_of_area a).1 in
-    let (frame_b, state_b) = (is_of_area b).1 in
-    record {
-      frame = sym frame_a ∙ ap frame_in e ∙ frame_b;
-      state = sym state_a ∙ ap state_in e ∙ state_b;
-    }
+    let same : (state_of a, frame_of a) ≡ (state_of b, frame_of b) =
+    sym (is_of_area a).1 ∙ ap held_in e ∙ (is_of_area b).1 in
+    record { frame = ap (λ p. p.1) same; state = ap (λ p. p.0) same }
 
 pub ruleset same_description = (described_from_alike, alike_from_described)

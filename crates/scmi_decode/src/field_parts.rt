@@ -13,9 +13,8 @@ use scmi_codec::{HeldRow, Part, listed_row, rate_of};
 /// The row of a message; `None` if no command of the profile has the id.
 pub(crate) fn row_of(protocol: u8, id: u8) -> Option<HeldRow>
     ensures row { option_map said result ≡ listed_row protocol id }
-    ensures asks { IfSome result (λ r. length r.asks.now ≤ FIELDS) }
-    ensures gives { IfSome result (λ r. length r.gives.now ≤ FIELDS) }
-    ensures later { IfSome result (λ r. length r.later.now ≤ FIELDS) }
+    ensures few { IfSome result (λ r. (length r.asks.now ≤ FIELDS)
+        × (length r.gives.now ≤ FIELDS) × (length r.later.now ≤ FIELDS)) }
 {
     listed_row(protocol, u32::from(id))
 }
