@@ -47,19 +47,6 @@ pub starts : (p : Held) → StandsAt p [] → p.said ≡ [] → IsDriven p []
 unfolding asks
 starts p at said = (at, said)
 
--- nothing belongs to a posting, to a restart, to a promotion, to the rate of a pending set and to a report
-pub drives_sent : (p k : Held) (agent : ℕ) → HasHappened p k (Sent agent) → k.said ≡ p.said → Drives p k (Sent agent)
-drives_sent p k agent happened said = drives p k (Sent agent) happened (λ h at. said)
-
-pub drives_restarted : (p k : Held) (agent : ℕ) → HasHappened p k (Restarted agent) → k.said ≡ p.said → Drives p k (Restarted agent)
-drives_restarted p k agent happened said = drives p k (Restarted agent) happened (λ h at. said)
-
-pub drives_promoted : (p k : Held) (place : ℕ) → HasHappened p k (Promoted place) → k.said ≡ p.said → Drives p k (Promoted place)
-drives_promoted p k place happened said = drives p k (Promoted place) happened (λ h at. said)
-
-pub drives_settled : (p k : Held) (clock rate : ℕ) → HasHappened p k (Settled clock rate) → k.said ≡ p.said → Drives p k (Settled clock rate)
-drives_settled p k clock rate happened said = drives p k (Settled clock rate) happened (λ h at. said)
-
 -- after a promotion a set is pending
 pub promoted-idle : (p k : Held) (place : ℕ) → HasHappened p k (Promoted place) → (h : List Event) → StandsAt p h → HasPendingAt (board_of p) h place
     → ¬ (IsIdle (board_of k) (h ++ Promoted place ∷ []))
@@ -79,9 +66,6 @@ pub only-nothing : (r : Result (Unit {0}) Refusal) (fault : Fault) → is_ok r �
 only-nothing (Ok done) fault not errors = absurd (let both : true ≡ false = not in cc)
 only-nothing (Err e) fault not (inl is) = ap (λ (refusal : Refusal). Err refusal) is
 only-nothing (Err e) fault not (inr is) = absurd (let none : Some fault ≡ None = is.1 in cc)
-
-pub drives_reported : (p k : Held) (effect : Effect) → HasHappened p k (Reported effect) → k.said ≡ p.said → Drives p k (Reported effect)
-drives_reported p k effect happened said = drives p k (Reported effect) happened (λ h at. said)
 
 -- a command's change, which was made or refused
 pub drives_made : (p k : Held) (agent : ℕ) (frame : Frame) (effect : Effect) → HasHappened p k (Called agent frame)

@@ -1,19 +1,21 @@
 -- A command that was asked about, and its change.
-use Rattle.std.proofs.Common.{rules, ◌≡◌, ◌≢◌, ◌≤◌, ◌<◌, ◌==◌, ◌||◌, ℕ, Bool, true, false, if◌then◌else◌, List, length, Option, Some, None, IfSome, IsSomeAnd, Result, Ok, IfOk, refl, sym, subst, ap, ◌∙◌, eq-eqb}
+use Rattle.std.proofs.Common.{rules, ◌≡◌, ◌≢◌, ◌≤◌, ◌<◌, ◌==◌, ◌||◌, ℕ, Bool, true, false, if◌then◌else◌, List, [], ◌∷◌, ◌++◌, length, Option, Some, None, IfSome, IsSomeAnd, Result, Ok, IfOk, refl, sym, subst, ap, ◌∙◌, eq-eqb}
 use Rattle.scmi_codec.specs.ChannelArea.{channel_words, is_channel_size}
 use Rattle.scmi_codec.specs.declared.frame.Frame.{Frame}
 use Rattle.scmi_codec.specs.declared.frame.Frame.TheVariants.{Good, Malformed}
 use Rattle.scmi_codec.specs.declared.message.Message.{Message}
 use Rattle.scmi_plan.specs.Board.{Board, channel_of}
+use Rattle.scmi_core.specs.Asked.{Asked as Request}
 use Rattle.scmi_core.specs.Effect.{effect_after, is_set_frame}
 use Rattle.scmi_plan.specs.declared.effect.Effect.{Effect}
 use Rattle.scmi_plan.specs.declared.effect.Effect.TheVariants.{Rate}
 use Rattle.scmi_core.specs.declared.event.Event.{Event}
 use Rattle.scmi_core.specs.declared.event.Event.TheVariants.{Command as Called}
 use Rattle.scmi_c.specs.Calls.{HasHappened, IsAskedAbout}
+use Rattle.scmi_c.specs.Driven.{Says}
 use Rattle.scmi_c.specs.Effect.{IsRate, numbers_of}
 use Rattle.scmi_c.specs.Aside.{IsHeldBackBy, KeepsSpared, Spares, disturbs, holds_back}
-use Rattle.scmi_c.specs.Kept.{AreAskable, Asked, IsAskable, IsKept, KeepsAskable, aside_by, asked_by, asked_of}
+use Rattle.scmi_c.specs.Kept.{AreAskable, Asked, IsAskable, IsKept, aside_by, asked_by, asked_of}
 use Rattle.scmi_c.specs.declared.aside.Slot.{Slot}
 use Rattle.scmi_c.specs.declared.refusal.Refusal.{Refusal}
 use Rattle.scmi_c.specs.Standing.{Held, StandsAt, board_of}
@@ -27,22 +29,38 @@ pub kept-of : (P : Asked → Type 0) (frame : Frame) (waiting : Waiting) → wai
 kept-of P frame waiting is holds =
     subst (λ (b : Bool). IfSome (if b then Some (asked_of frame waiting) else None) P) is holds
 
--- the change of some numbers is the one that was given
-pub effect-is : (p : Held) (asked : Asked) (effect : Effect) → IsAskable p asked → ((other : Effect) → numbers_of other ≡ asked.change → effect ≡ other)
-    → (h : List Event) → StandsAt p h → effect_after (board_of p) h (Called asked.agent asked.frame) ≡ Some effect
-effect-is p asked effect may only h at = may.effect h at ∙ ap (λ (e : Effect). Some e) (sym (only may.change may.given))
+-- the change of the numbers that wait is the one that was given
+module _ (p : Held) (frame : Frame) (waiting : Waiting) (effect : Effect)
+    (is : waiting.is_asked ≡ true) (all : IfSome (asked_by frame waiting) (IsAskable p))
+    (only : (other : Effect) → numbers_of other ≡ waiting.change → effect ≡ other) where
+  may : IsAskable p (asked_of frame waiting)
+  may = kept-of (IsAskable p) frame waiting is all
 
--- and has these numbers
-pub effect-numbers : (p : Held) (asked : Asked) (effect : Effect) → IsAskable p asked → ((other : Effect) → numbers_of other ≡ asked.change → effect ≡ other) → numbers_of effect ≡ asked.change
-effect-numbers p asked effect may only = ap numbers_of (only may.change may.given) ∙ may.given
+  given : effect ≡ may.change
+  given = only may.change may.given
 
--- and if they give a clock a rate, the board has the clock
-pub rate-clock : (p k : Held) (asked : Asked) (event : Event) (effect : Effect) → IsAskable p asked → ((other : Effect) → numbers_of other ≡ asked.change → effect ≡ other)
-    → ((clock rate : ℕ) → effect ≡ Rate clock rate → clock < length (board_of p).clocks) → HasHappened p k event
-    → IsRate asked.change → asked.change.id < length (board_of k).clocks
-rate-clock p k asked event effect may only known happened kind =
-    let given = rate-given may.change asked.change may.given kind in
-    subst (λ (board : Board). asked.change.id < length board.clocks) (sym happened.board) (known asked.change.id given.0 (only may.change may.given ∙ given.1))
+  pub effect-is : (h : List Event) → StandsAt p h
+      → effect_after (board_of p) h (Called waiting.agent frame) ≡ Some effect
+  effect-is h at = may.effect h at ∙ ap (λ (e : Effect). Some e) (sym given)
+
+  -- so what is said of it is said of these numbers
+  pub effect-said : (ask : Effect → Request) (q k : Held) → k.said ≡ q.said ++ ask effect ∷ []
+      → Says ask waiting.change q k
+  effect-said ask q k said = record {
+    effect = effect;
+    numbers = ap numbers_of given ∙ may.given;
+    said = said;
+  }
+
+  -- and if they give a clock a rate, the board has the clock
+  pub rate-clock : (k : Held) (event : Event)
+      → ((clock rate : ℕ) → effect ≡ Rate clock rate → clock < length (board_of p).clocks)
+      → HasHappened p k event → IsRate waiting.change
+      → waiting.change.id < length (board_of k).clocks
+  rate-clock k event known happened kind =
+      let rate = rate-given may.change waiting.change may.given kind in
+      subst (λ (board : Board). waiting.change.id < length board.clocks) (sym happened.board)
+      (known waiting.change.id rate.0 (given ∙ rate.1))
 
 -- so there is a change
 pub effect-some : (o : Option Effect) (effect : Effect) → o ≡ Some effect → o ≢ None
@@ -74,13 +92,6 @@ askable p k agent bytes frame waits effect waiting about is given asks of_agent 
 
 -- WHAT IS SET ASIDE
 
--- it is kept by what keeps each command, and by a frame that is not held back
-pub kept-aside : (p k : Held) (aside : ℕ → Option Asked) → KeepsAskable p k → AreAskable p aside → AreAskable k aside
-kept-aside p k aside keeps may agent = by (aside agent) (may agent) where
-  by : (o : Option Asked) → IfSome o (IsAskable p) → IfSome o (IsAskable k)
-  by None had = tt
-  by (Some command) had = keeps command had
-
 spares : (command : Asked) (agent : ℕ) (frame : Frame) (m : Message) → frame ≡ Good m → (holds_back command agent m ≡ true → ⊥) → Spares frame command
 spares command agent frame m is free =
     subst (λ (f : Frame). Spares f command) (sym is) (by (command.agent == agent) (disturbs m command.change) free) where
@@ -89,6 +100,7 @@ spares command agent frame m is free =
       by false true free = absurd (free refl)
       by false false free = refl
 
+-- it is kept by a frame that is not held back
 pub spared-aside : (p k : Held) (aside : ℕ → Option Asked) (agent : ℕ) (frame : Frame) → KeepsSpared frame p k → (IsHeldBackBy aside agent frame → ⊥) → AreAskable p aside → AreAskable k aside
 spared-aside p k aside agent (Malformed len header) keeps free may other = by (aside other) (may other) where
   by : (o : Option Asked) → IfSome o (IsAskable p) → IfSome o (IsAskable k)

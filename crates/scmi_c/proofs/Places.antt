@@ -1,6 +1,6 @@
 -- The places of commands that are set aside.
 use Rattle.std.proofs.Common.{rules, ◌≡◌, ◌≢◌, ◌↔◌, ◌≤◌, ◌<◌, ◌+◌, ◌-◌, ◌==◌, ◌&&◌, ◌||◌, ℕ, zero, suc, Bool, true, false, List, [], ◌∷◌, length, slice_get, slice_set, Option, Some, None, IfSome, IsSomeAnd, refl, sym, subst, ap, ◌∙◌, arith, get_or, ◌⊎◌, inl, inr, get_or-set_same, length-set}
-use Rattle.std.proofs.lemmas.Bool.{cases_eq}
+use Rattle.std.proofs.lemmas.Bool.{cases_eq, or_parts}
 use Rattle.std.proofs.lemmas.List.Folds.{list_any_at}
 use Rattle.std.proofs.lemmas.Option.{slice_get-get_or, slice_get_cases, slice_get_past}
 use Rattle.scmi_codec.specs.declared.frame.Frame.{Frame}
@@ -9,10 +9,6 @@ use Rattle.scmi_codec.specs.declared.message.Message.{Message}
 use Rattle.scmi_c.specs.Aside.{IsHeldBackBy, disturbs, holds_back, holds_in, is_any, is_used}
 use Rattle.scmi_c.specs.Kept.{aside_by, command_at, command_if, command_in, Asked}
 use Rattle.scmi_c.specs.declared.aside.Slot.{Slot}
-
-parts : (x y : Bool) → (x || y) ≡ false → (x ≡ false) × (y ≡ false)
-parts true y off = absurd (let it : true ≡ false = off in cc)
-parts false y off = (refl, off)
 
 unused : (slot : Slot) → slot.is_used ≡ false → (own : ℕ) → command_in own slot ≡ None
 unused slot off own = search rules
@@ -47,8 +43,9 @@ past-places slots (suc place) past = ap (command_at (suc place)) (slice_get_past
 
 none-at : (slots : List Slot) → is_any slots ≡ false → (place own : ℕ) → command_at own (slice_get slots place) ≡ None
 none-at [] off place own = refl
-none-at (slot ∷ slots) off zero own = unused slot (parts slot.is_used (is_any slots) off).0 own
-none-at (slot ∷ slots) off (suc place) own = none-at slots (parts slot.is_used (is_any slots) off).1 place own
+none-at (slot ∷ slots) off zero own = unused slot (or_parts slot.is_used (is_any slots) off).0 own
+none-at (slot ∷ slots) off (suc place) own =
+    none-at slots (or_parts slot.is_used (is_any slots) off).1 place own
 
 -- no command is there if no place is used, and one is if some place is
 pub none-aside : (slots : List Slot) → is_any slots ≡ false → (agent : ℕ) → aside_by slots agent ≡ None

@@ -10,7 +10,7 @@ ghost use Rattle.scmi_c.specs.Calls.{HasAnswered, HasHappened};
 ghost use Rattle.scmi_c.specs.Driven.{Drives, IsUnsaid};
 ghost use Rattle.scmi_c.specs.declared.code.TheConstants.{ASKED, DONE, NOTHING, NO_AGENT, NO_PLATFORM};
 
-use crate::area::answer;
+use crate::area::{answer, see_whole};
 use crate::code::{DONE, NOTHING, code};
 use crate::desk::Desk;
 use crate::handle::Handle;
@@ -21,7 +21,6 @@ use std::alloc::Global;
 /// if a command waits to be committed or to fail, or is set aside; `NOTHING` if the channel is
 /// free; `NO_AGENT`. After another number than `DONE` nothing changed. The hardware is not asked,
 /// and nothing is said of it: a program that drives hardware uses `scmi_ask`.
-#[tactic(auto, using(crate::proofs::Areas::whole_waits))]
 #[unsafe(no_mangle)]
 pub extern "C" fn scmi_answer(
     alloc: Global,
@@ -54,6 +53,7 @@ pub extern "C" fn scmi_answer(
         Ok(desk) => desk,
         Err(number) => return number,
     };
+    see_whole(area);
     let seat: &mut Desk = &mut desk;
     let given = answer(&mut seat.held, &mut seat.exchange, agent, area);
     platform.put(desk);

@@ -1,7 +1,7 @@
 //! Areas that a platform answers and fills: whole ones, and those of the size of their agent's
 //! channel.
 ghost use Rattle.std.specs.Prelude.{◌≡◌, ◌≢◌, ◌↔◌, ◌≤◌, Some, None, List, length, true, IsSomeAnd, IfOk, IfErr, OnOk, OnErr, Ok, Err, ◌⊎◌};
-ghost use Rattle.scmi_codec.specs.Area.{area_after_answer, header_at, message_of};
+ghost use Rattle.scmi_codec.specs.Area.{area_after_answer, frame_waiting, header_at, message_of};
 ghost use Rattle.scmi_codec.specs.ChannelArea.{capacity, channel_waiting, is_channel_size};
 ghost use Rattle.scmi_codec.specs.declared.frame.Answer.TheVariants as frame_answer;
 ghost use Rattle.scmi_plan.specs.Agent.{IsAgent};
@@ -23,10 +23,20 @@ use crate::desk::Exchange;
 use crate::held::Held;
 use crate::refusal::Refusal;
 use scmi_codec::{
-    Payload, is_channel_free, read_channel_area_into, write_channel_error, write_channel_message,
-    write_channel_response,
+    AREA_BYTES, Payload, is_channel_free, read_channel_area_into, write_channel_error,
+    write_channel_message, write_channel_response,
 };
 use scmi_core::{Answered, Effect};
+
+/// Does nothing: it is there for its contract, that a whole area is read as one of a channel with
+/// the longest messages.
+#[tactic(auto, using(crate::proofs::Areas::whole_waits))]
+#[inline(always)]
+pub fn see_whole(area: &[u8; AREA_BYTES])
+    ensures { channel_waiting area.now ≡ frame_waiting area.now }
+{
+    let _area = area;
+}
 
 /// Executes the frame in an agent's area, and answers it in place. `Nothing` if the channel is
 /// free; else `NoAgent` if the board lacks the agent. Then nothing changed.

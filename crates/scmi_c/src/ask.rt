@@ -14,7 +14,7 @@ ghost use Rattle.scmi_c.specs.Standing.{LacksAgent, StandsAt, board_of};
 ghost use Rattle.scmi_c.specs.Calls.{ChangesNothing, HasAnswered};
 ghost use Rattle.scmi_c.specs.declared.code.TheConstants.{ASKED, DONE, EFFECT, NO_AGENT, NO_PLATFORM, NO_FRAME, OTHER};
 
-use crate::area::ask;
+use crate::area::{ask, see_whole};
 use crate::code::{DONE, EFFECT, code};
 use crate::desk::Desk;
 use crate::effect::{EffectNumbers, put_numbers};
@@ -29,7 +29,6 @@ use std::alloc::Global;
 /// channel is free; `NO_AGENT`; `ASKED` if the frame is held back by a command that is set aside
 /// (`scmi_set_aside`); `OTHER` for a command of a protocol of the board that is not the library's,
 /// which the firmware answers. After another number than these two nothing changed.
-#[tactic(auto, using(crate::proofs::Areas::whole_waits))]
 #[unsafe(no_mangle)]
 pub extern "C" fn scmi_ask(
     alloc: Global,
@@ -87,6 +86,7 @@ pub extern "C" fn scmi_ask(
         Ok(desk) => desk,
         Err(number) => return number,
     };
+    see_whole(area);
     let seat: &mut Desk = &mut desk;
     let given = ask(&mut seat.held, &mut seat.exchange, &seat.aside, agent, area);
     if let Ok(Some(change)) = given {

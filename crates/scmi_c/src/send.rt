@@ -10,7 +10,7 @@ ghost use Rattle.scmi_c.specs.Driven.{Drives};
 ghost use Rattle.scmi_c.specs.Kept.{BeforeAfter, HasSameAside, IsAsked, IsUnasked};
 ghost use Rattle.scmi_c.specs.declared.code.TheConstants.{ASKED, DONE, NOTHING, MEMORY, NO_AGENT, NOT_FREE, NO_PLATFORM};
 
-use crate::area::post_next;
+use crate::area::{post_next, see_whole};
 use crate::code::{NO_PLATFORM, code};
 use crate::desk::Desk;
 use crate::handle::Handle;
@@ -20,7 +20,6 @@ use std::alloc::Global;
 /// Writes the first message of an agent's outbox into an area, as a caller posts it; it stays in
 /// the outbox. `DONE`; `NO_PLATFORM`; `NO_AGENT`; `NOTHING` if the outbox is empty; `NOT_FREE` if
 /// the area still holds a message. After another number than `DONE` nothing changed.
-#[tactic(auto, using(crate::proofs::Areas::whole_waits))]
 #[unsafe(no_mangle)]
 pub extern "C" fn scmi_next(
     alloc: Global,
@@ -46,6 +45,7 @@ pub extern "C" fn scmi_next(
     let Some(mut desk) = platform.take(alloc) else {
         return NO_PLATFORM;
     };
+    see_whole(area);
     let seat: &mut Desk = &mut desk;
     let given = post_next(&seat.held, &mut seat.exchange, agent, area);
     platform.put(desk);

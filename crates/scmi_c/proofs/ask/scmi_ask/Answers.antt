@@ -13,8 +13,7 @@ use Rattle.scmi_c.specs.Kept.{IsUnasked, Kept, aside_by, asked_by}
 use Rattle.scmi_c.specs.Other.{IsOther}
 use Rattle.scmi_c.specs.Standing.{LacksAgent, StandsAt, board_of}
 use Rattle.scmi_c.specs.declared.refusal.Refusal.TheVariants.{Asked, NoAgent, Other}
-use Rattle.scmi_c.proofs.Areas.{whole_waits}
-use Rattle.scmi_c.proofs.Codes.{held-back, lacks-agent, left-over}
+use Rattle.scmi_c.proofs.Codes.{coded, coded-unasked, held-back}
 use Rattle.scmi_c.proofs.Keeping.{askable, asked-kept, of-effect}
 use Rattle.scmi_c.proofs.ask.scmi_ask.Goals as goal
 
@@ -36,19 +35,33 @@ invariant_of-seat c =
 
 pub returns-in-Err-given-clause-no_agent : goal.returns-in-Err-given-clause-no_agent
 returns-in-Err-given-clause-no_agent c =
-    let held = c.seat.inside.held in
-    let waits : channel_waiting c.args.area.now ≡ frame_waiting c.args.area.now = whole_waits c.args.area.now (search rules) in
-    let all : (c.ask-given.result ≡ Err NoAgent) ↔ ((frame_waiting c.args.area.now ≢ None) × LacksAgent c.args.agent held) =
-    subst (λ (o : Option Frame). (c.ask-given.result ≡ Err NoAgent) ↔ ((o ≢ None) × LacksAgent c.args.agent held)) waits c.ask-given.ensures.no_agent in
-    lacks-agent c.args.platform.now.value c.in-Ok.desk.value held (frame_waiting c.args.area.now ≢ None) c.args.agent c.code.result
-    c.ask-given.result c.in-Err-given.refusal (search rules) (search rules) (search rules) (search rules) c.code.ensures all
+    let inside = c.seat.inside in
+    let view : Kept = record {
+      held = inside.held;
+      asked = asked_by inside.exchange.frame inside.waiting;
+      aside = inside.aside.slots;
+    } in
+    let same : view ≡ c.in-Ok.desk.value = c.seat.view_is ∙ c.deref_mut-seat.ensures.value in
+    let waits : channel_waiting c.args.area.now ≡ frame_waiting c.args.area.now =
+    c.see_whole.ensures in
+    let Lacks : Option Frame → Type 0 = λ o. (o ≢ None) × LacksAgent c.args.agent view.held in
+    let all : (c.ask-given.result ≡ Err NoAgent) ↔ Lacks (frame_waiting c.args.area.now) =
+    subst (λ (o : Option Frame). (c.ask-given.result ≡ Err NoAgent) ↔ Lacks o) waits
+    c.ask-given.ensures.no_agent in
+    let free : IsUnasked view = subst IsUnasked (sym same) c.in-Ok.ensures.unasked in
+    coded c.args.platform.now.value view
+    (λ p. IsUnasked p × (frame_waiting c.args.area.now ≢ None) × LacksAgent c.args.agent p.held)
+    c.code.result c.ask-given.result c.in-Err-given.refusal NoAgent
+    (c.in-Ok.ensures.taken ∙ ap (λ (k : Kept). Some k) (sym same)) (search rules) c.code.ensures
+    (λ err. let it = all.0 err in (free, it.0, it.1), λ three. all.1 (three.1, three.2))
 
 pub returns-in-Err-given-clause-asked : goal.returns-in-Err-given-clause-asked
 returns-in-Err-given-clause-asked c =
     let inside = c.seat.inside in
     let view : Kept = record { held = inside.held; asked = asked_by inside.exchange.frame inside.waiting; aside = inside.aside.slots } in
     let same : view ≡ c.in-Ok.desk.value = c.seat.view_is ∙ c.deref_mut-seat.ensures.value in
-    let waits : channel_waiting c.args.area.now ≡ frame_waiting c.args.area.now = whole_waits c.args.area.now (search rules) in
+    let waits : channel_waiting c.args.area.now ≡ frame_waiting c.args.area.now =
+    c.see_whole.ensures in
     let all : (c.ask-given.result ≡ Err Asked) ↔ IsSomeAnd (frame_waiting c.args.area.now) (IsHeldBack view c.args.agent) =
     subst (λ (o : Option Frame). (c.ask-given.result ≡ Err Asked) ↔ IsSomeAnd o (IsHeldBack view c.args.agent)) waits c.ask-given.ensures.held_back in
     held-back c.args.platform.now.value view (λ p. IsSomeAnd (frame_waiting c.args.area.now) (IsHeldBack p c.args.agent)) c.code.result
@@ -59,8 +72,13 @@ returns-in-Err-given-clause-other c =
     let inside = c.seat.inside in
     let view : Kept = record { held = inside.held; asked = asked_by inside.exchange.frame inside.waiting; aside = inside.aside.slots } in
     let same : view ≡ c.in-Ok.desk.value = c.seat.view_is ∙ c.deref_mut-seat.ensures.value in
-    let waits : channel_waiting c.args.area.now ≡ frame_waiting c.args.area.now = whole_waits c.args.area.now (search rules) in
+    let waits : channel_waiting c.args.area.now ≡ frame_waiting c.args.area.now =
+    c.see_whole.ensures in
     let all : (c.ask-given.result ≡ Err Other) ↔ IsSomeAnd (frame_waiting c.args.area.now) (λ frame. IsOther c.args.agent frame view.held × (¬ (IsHeldBack view c.args.agent frame))) =
     subst (λ (o : Option Frame). (c.ask-given.result ≡ Err Other) ↔ IsSomeAnd o (λ frame. IsOther c.args.agent frame view.held × (¬ (IsHeldBack view c.args.agent frame)))) waits c.ask-given.ensures.other in
-    left-over c.args.platform.now.value view (λ p. IsSomeAnd (frame_waiting c.args.area.now) (λ frame. IsOther c.args.agent frame p.held × (¬ (IsHeldBack p c.args.agent frame)))) c.code.result
-    c.ask-given.result c.in-Err-given.refusal (c.in-Ok.ensures.taken ∙ ap (λ (k : Kept). Some k) (sym same)) (subst IsUnasked (sym same) c.in-Ok.ensures.unasked) (search rules) c.code.ensures all
+    coded-unasked c.args.platform.now.value view
+    (λ p. IsSomeAnd (frame_waiting c.args.area.now) (λ frame.
+    IsOther c.args.agent frame p.held × (¬ (IsHeldBack p c.args.agent frame))))
+    c.code.result c.ask-given.result c.in-Err-given.refusal Other
+    (c.in-Ok.ensures.taken ∙ ap (λ (k : Kept). Some k) (sym same))
+    (subst IsUnasked (sym same) c.in-Ok.ensures.unasked) (search rules) c.code.ensures all

@@ -13,9 +13,9 @@ use Rattle.scmi_c.specs.Channel.{HasSize}
 use Rattle.scmi_c.specs.Kept.{IsUnasked, Kept, aside_by, asked_by}
 use Rattle.scmi_c.specs.Other.{IsOther, is_other}
 use Rattle.scmi_c.specs.Standing.{LacksAgent, StandsAt, board_of}
-use Rattle.scmi_c.specs.declared.refusal.Refusal.TheVariants.{Other}
+use Rattle.scmi_c.specs.declared.refusal.Refusal.TheVariants.{NoAgent, Other}
 use Rattle.scmi_c.proofs.Areas.{sized}
-use Rattle.scmi_c.proofs.Codes.{coded, held-back, no-agent, other-code}
+use Rattle.scmi_c.proofs.Codes.{coded, coded-unasked, held-back}
 use Rattle.scmi_c.proofs.Keeping.{askable, asked-kept, of-effect, plain-kept, some-map}
 use Rattle.scmi_c.proofs.ask_in.scmi_ask_in.Goals as goal
 
@@ -77,9 +77,17 @@ returns-in-Err-given-clause-no_agent c =
     let view : Kept = record { held = inside.held; asked = asked_by inside.exchange.frame inside.waiting; aside = inside.aside.slots } in
     let same : view ≡ c.in-Ok.desk.value = c.seat.view_is ∙ c.deref_mut-seat.ensures.value in
     let size : HasSize c.args.agent (length c.args.area.now) inside.held = search rules in
-    no-agent c.args.platform.now.value view (λ p. LacksAgent c.args.agent p.held) c.code-in-Err-given.result
-    c.ask-given.result c.in-Err-given.refusal (c.in-Ok.ensures.taken ∙ ap (λ (k : Kept). Some k) (sym same)) (subst IsUnasked (sym same) c.in-Ok.ensures.unasked) (search rules) c.code-in-Err-given.ensures
-    (λ err. (c.ask-given.ensures.no_agent.0 err).1, λ lacks. absurd (elim lacks [ inl none ↦ omega (arith, size.0.0, none) | inr above ↦ omega (arith, size.0.1, above) ]))
+    coded-unasked c.args.platform.now.value view (λ p. LacksAgent c.args.agent p.held)
+    c.code-in-Err-given.result c.ask-given.result c.in-Err-given.refusal NoAgent
+    (c.in-Ok.ensures.taken ∙ ap (λ (k : Kept). Some k) (sym same))
+    (subst IsUnasked (sym same) c.in-Ok.ensures.unasked) (search rules)
+    c.code-in-Err-given.ensures (
+      λ err. (c.ask-given.ensures.no_agent.0 err).1,
+      λ lacks. absurd (elim lacks [
+        | inl none ↦ omega (arith, size.0.0, none)
+        | inr above ↦ omega (arith, size.0.1, above)
+      ]),
+    )
 
 pub returns-in-Err-given-clause-other : goal.returns-in-Err-given-clause-other
 returns-in-Err-given-clause-other c =
@@ -92,7 +100,9 @@ returns-in-Err-given-clause-other c =
     let free : IsUnasked view = subst IsUnasked (sym same) c.in-Ok.ensures.unasked in
     coded c.args.platform.now.value view
     (λ p. IsUnasked p × HasSize c.args.agent (length c.args.area.now) p.held × IsSomeAnd (channel_waiting c.args.area.now) (λ frame. (is_other (board_of p.held) frame ≡ true) × (¬ (IsHeldBack p c.args.agent frame)))) c.code-in-Err-given.result
-    c.ask-given.result c.in-Err-given.refusal Other 34 (c.in-Ok.ensures.taken ∙ ap (λ (k : Kept). Some k) (sym same)) (search rules) c.code-in-Err-given.ensures (other-code c.in-Err-given.refusal) (
+    c.ask-given.result c.in-Err-given.refusal Other
+    (c.in-Ok.ensures.taken ∙ ap (λ (k : Kept). Some k) (sym same)) (search rules)
+    c.code-in-Err-given.ensures (
       λ err. (free, size, some-map (channel_waiting c.args.area.now) P Q (λ frame both. (both.0.1, both.1)) (c.ask-given.ensures.other.0 err)),
       λ all. c.ask-given.ensures.other.1 (some-map (channel_waiting c.args.area.now) Q P (λ frame two. ((size.0, two.0), two.1)) all.2),
     )

@@ -15,7 +15,7 @@ use Rattle.scmi_c.specs.Standing.{StandsAt, board_of}
 use Rattle.scmi_c.specs.Words.{FitsWords, frame_in}
 use Rattle.scmi_c.specs.declared.refusal.Refusal.TheVariants.{Other}
 use Rattle.scmi_c.proofs.Areas.{sized}
-use Rattle.scmi_c.proofs.Codes.{coded, held-back, other-code}
+use Rattle.scmi_c.proofs.Codes.{coded, held-back}
 use Rattle.scmi_c.proofs.Keeping.{askable, asked-kept, of-effect}
 use Rattle.scmi_c.proofs.ask_words.scmi_ask_words.Goals as goal
 
@@ -57,5 +57,6 @@ returns-in-Err-given-clause-other c =
     let free : IsUnasked view = subst IsUnasked (sym same) c.in-Ok.ensures.unasked in
     coded c.args.platform.now.value view
     (λ p. IsUnasked p × FitsWords c.args.agent (length c.args.message.now) (length c.args.reply.now) p.held × (is_other (board_of p.held) (frame_in c.args.message.now) ≡ true) × (¬ (IsHeldBack p c.args.agent (frame_in c.args.message.now)))) c.code.result
-    c.ask-given.result c.in-Err-given.refusal Other 34 (c.in-Ok.ensures.taken ∙ ap (λ (k : Kept). Some k) (sym same)) (search rules) c.code.ensures (other-code c.in-Err-given.refusal)
+    c.ask-given.result c.in-Err-given.refusal Other
+    (c.in-Ok.ensures.taken ∙ ap (λ (k : Kept). Some k) (sym same)) (search rules) c.code.ensures
     (λ err. let it = c.ask-given.ensures.other.0 err in (free, it.0, it.1, it.2), λ all. c.ask-given.ensures.other.1 (all.1, all.2, all.3))

@@ -1,20 +1,20 @@
 use Rattle.std.proofs.Common.{rules, ◌≡◌, ◌≤◌, ℕ, length, subst, ap}
 use Rattle.scmi_codec.specs.ChannelArea.{channel_words}
 use Rattle.scmi_plan.specs.Board.{channel_of}
+use Rattle.scmi_core.specs.Asked.{Made}
 use Rattle.scmi_core.specs.declared.event.Event.TheVariants.{Command as Called}
 use Rattle.scmi_c.specs.Kept.{Asked, IsAskable, Kept, asked_of}
 use Rattle.scmi_c.specs.Standing.{Held, board_of}
 use Rattle.scmi_c.proofs.Answering.{some-and}
 use Rattle.scmi_c.proofs.Areas.{committed-in}
-use Rattle.scmi_c.proofs.Keeping.{effect-is, effect-numbers, kept-of, rate-clock}
+use Rattle.scmi_c.proofs.Keeping.{effect-is, effect-said, kept-of, rate-clock}
 use Rattle.scmi_c.proofs.settle.commit.Goals as goal
 
 pub commit-answered-requires-clause-effect : goal.commit-answered-requires-clause-effect
 commit-answered-requires-clause-effect c =
-    let waiting = c.desk.inside.waiting in
-    let frame = c.desk.inside.exchange.frame in
-    let may = kept-of (IsAskable c.desk.inside.held) frame waiting (search rules) c.desk.invariant.0.asked in
-    effect-is c.desk.inside.held (asked_of frame waiting) c.effect_of-effect.result may c.effect_of-effect.ensures
+    let desk = c.desk.inside in
+    effect-is desk.held desk.exchange.frame desk.waiting c.effect_of-effect.result (search rules)
+    c.desk.invariant.0.asked c.effect_of-effect.ensures
 
 pub returns-clause-ok : goal.returns-clause-ok
 returns-clause-ok c =
@@ -41,23 +41,18 @@ returns-clause-driven c =
 
 pub returns-clause-said : goal.returns-clause-said
 returns-clause-said c =
+    let held = c.desk.inside.held in
     let frame = c.desk.inside.exchange.frame in
     let waiting = c.desk.inside.waiting in
-    let asked : Asked = asked_of frame waiting in
-    let may = kept-of (IsAskable c.desk.inside.held) frame waiting (search rules) c.desk.invariant.0.asked in
-    some-and c.args.desk.now.asked asked _ (search rules)
-    (record {
-      effect = c.effect_of-effect.result;
-      numbers = effect-numbers c.desk.inside.held asked c.effect_of-effect.result may c.effect_of-effect.ensures;
-      said = search rules;
-    })
+    some-and c.args.desk.now.asked (asked_of frame waiting) _ (search rules)
+    (effect-said held frame waiting c.effect_of-effect.result (search rules)
+    c.desk.invariant.0.asked c.effect_of-effect.ensures Made c.args.desk.now.held _ (search rules))
 
 pub returns-clause-clock : goal.returns-clause-clock
 returns-clause-clock c =
     let frame = c.desk.inside.exchange.frame in
     let waiting = c.desk.inside.waiting in
-    let asked : Asked = asked_of frame waiting in
-    let may = kept-of (IsAskable c.desk.inside.held) frame waiting (search rules) c.desk.invariant.0.asked in
-    some-and c.args.desk.now.asked asked _ (search rules)
-    (rate-clock c.desk.inside.held _ asked (Called waiting.agent frame) c.effect_of-effect.result may c.effect_of-effect.ensures
+    some-and c.args.desk.now.asked (asked_of frame waiting) _ (search rules)
+    (rate-clock c.desk.inside.held frame waiting c.effect_of-effect.result (search rules)
+    c.desk.invariant.0.asked c.effect_of-effect.ensures _ (Called waiting.agent frame)
     c.commit-answered.ensures.clock c.commit-answered.ensures.event)

@@ -1,8 +1,9 @@
 use Rattle.std.proofs.Common.{rules, ◌≤◌, ◌+◌, length}
 use Rattle.scmi_codec.specs.ChannelArea.{channel_words}
+use Rattle.scmi_core.specs.Asked.{Refused}
 use Rattle.scmi_c.specs.Kept.{Asked, IsAskable, asked_of}
 use Rattle.scmi_c.proofs.Answering.{some-and}
-use Rattle.scmi_c.proofs.Keeping.{effect-is, effect-numbers, kept-of}
+use Rattle.scmi_c.proofs.Keeping.{effect-is, effect-said, kept-of}
 use Rattle.scmi_c.proofs.WordReplies.{failed-written, some-room}
 use Rattle.scmi_c.proofs.settle_words.fail.Goals as goal
 
@@ -12,10 +13,9 @@ channel_words-requires c =
 
 pub refuse-requires-clause-effect : goal.refuse-requires-clause-effect
 refuse-requires-clause-effect c =
-    let waiting = c.desk.inside.waiting in
-    let frame = c.desk.inside.exchange.frame in
-    let may = kept-of (IsAskable c.desk.inside.held) frame waiting (search rules) c.desk.invariant.0.asked in
-    effect-is c.desk.inside.held (asked_of frame waiting) c.effect_of-effect.result may c.effect_of-effect.ensures
+    let desk = c.desk.inside in
+    effect-is desk.held desk.exchange.frame desk.waiting c.effect_of-effect.result (search rules)
+    c.desk.invariant.0.asked c.effect_of-effect.ensures
 
 pub returns-clause-ok : goal.returns-clause-ok
 returns-clause-ok c =
@@ -38,14 +38,11 @@ returns-clause-driven c =
 
 pub returns-clause-said : goal.returns-clause-said
 returns-clause-said c =
+    let held = c.desk.inside.held in
     let frame = c.desk.inside.exchange.frame in
     let waiting = c.desk.inside.waiting in
-    let asked : Asked = asked_of frame waiting in
-    let may = kept-of (IsAskable c.desk.inside.held) frame waiting (search rules) c.desk.invariant.0.asked in
     some-and c.args.fault c.in-Some.fault _ (search rules)
-    (some-and c.args.desk.now.asked asked _ (search rules)
-    (record {
-      effect = c.effect_of-effect.result;
-      numbers = effect-numbers c.desk.inside.held asked c.effect_of-effect.result may c.effect_of-effect.ensures;
-      said = search rules;
-    }))
+    (some-and c.args.desk.now.asked (asked_of frame waiting) _ (search rules)
+    (effect-said held frame waiting c.effect_of-effect.result (search rules)
+    c.desk.invariant.0.asked c.effect_of-effect.ensures
+    (λ change. Refused change c.in-Some.fault) c.args.desk.now.held _ (search rules)))
