@@ -2,18 +2,19 @@
 ghost use Rattle.std.specs.Prelude.{◌≡◌, Some, IfSome};
 ghost use Rattle.scmi_explain.specs.Explain.{line_of};
 
-use crate::area::area_explanation;
 use crate::board::board_cause;
 use crate::dumps::dumps_cause;
-use crate::expected::Expected;
-use crate::explanation::Explanation;
+use crate::explanation::{Cause, Explanation, What, at, plain};
 use crate::fault::Fault;
-use crate::mode::mode_cause;
+use crate::mode::{Expected, mode_cause};
+use crate::piece::Piece;
 use crate::plan::plan_explanation;
+use crate::rows::Rows;
 use crate::script::script_cause;
+use crate::sentence::Sentence;
 use crate::size::size_cause;
-use crate::slip::Slip;
-use crate::what::What;
+use crate::slip::slip_of_bytes;
+use crate::text::behind_first;
 use std::alloc::Global;
 
 /// What is wrong with an input that a program refused with this fault, of which the first bytes are
@@ -28,16 +29,54 @@ pub fn explain(alloc: Global, expected: Expected, input: &[u8], fault: Fault) ->
         Fault::Plan(rule) => plan_explanation(input, rule),
         Fault::Area if expected == Expected::Dumps => at(None, dumps_cause(input)),
         Fault::Area => area_explanation(input),
-        Fault::Size => at(None, (size_cause(expected, input), None)),
-        Fault::Read => at(None, (What::NotRead, None)),
-        Fault::Limit => at(None, (What::Limit, None)),
-        Fault::Memory => at(None, (What::Memory, None)),
+        _ => at(None, run_cause(expected, input, fault)),
     }
 }
 
-fn at<'a>(line: Option<u32>, cause: (What<'a>, Option<Slip>)) -> Explanation<'a>
-    ensures { result.line ≡ line }
-{
-    let (what, slip) = cause;
-    Explanation { line, what, slip }
+/// What is wrong if an input was not read to its end, or its run ended early.
+fn run_cause(expected: Expected, input: &[u8], fault: Fault) -> Cause<'_> {
+    let text = match fault {
+        Fault::Size => return size_cause(expected, input),
+        Fault::Read => "the input could not be read",
+        Fault::Limit => {
+            "a script reached a limit: its reply, message or state did not come in as many polls \
+             as docs/SCRIPTS.md says"
+        }
+        _ => "out of memory",
+    };
+    plain(text)
+}
+
+/// What is wrong with an input of the mode `once` that is not one line of an area's digits.
+fn area_explanation(input: &[u8]) -> Explanation<'_> {
+    let mut rows = Rows::all(behind_first(input));
+    let Some(area) = rows.next() else {
+        return at(
+            None,
+            plain("the area is missing: after the mode comes a line of 568 hexadecimal digits"),
+        );
+    };
+    if let Some(row) = rows.next() {
+        return at(
+            Some(row.number),
+            plain("once takes one area, and this is a second line"),
+        );
+    }
+    at(Some(area.number), digits_cause(area.text))
+}
+
+/// What is wrong with a line that has to be the digits of an area.
+fn digits_cause(line: &[u8]) -> Cause<'_> {
+    let slip = slip_of_bytes(line);
+    let Some(place) = line.iter().position(|byte| !byte.is_ascii_hexdigit()) else {
+        let digits = Piece::Number(line.len() as u64);
+        let text = "an area has 568 hexadecimal digits, and this line has %";
+        return (What::Said(Sentence::filled(text, &[digits])), slip);
+    };
+    let sentence = Sentence::quoting(
+        "byte %, %, is not a hexadecimal digit",
+        &line[place..place + 1],
+        &[Piece::Number((place + 1) as u64), Piece::Quoted],
+    );
+    (What::Said(sentence), slip)
 }

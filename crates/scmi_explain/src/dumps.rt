@@ -1,13 +1,12 @@
 //! Inputs in which no area is found.
 
-use crate::expected::Expected;
+use crate::explanation::{Cause, What};
 use crate::fit::begins_as;
 use crate::forms::HEADINGS;
-use crate::mode::is_mode;
-use crate::slip::{Slip, begins_with_mark};
-use crate::text::{first_line, first_word};
-use crate::what::What;
-use scmi_board::Items;
+use crate::mode::{Expected, empty_cause, is_mode};
+use crate::sentence::{Sentence, Slip};
+use crate::slip::slip_of_mark;
+use crate::text::{are_hexadecimal, first_line, first_word, is_line_feed, item_at};
 
 /// How many digits the address of a row of numbers of 16 bits has, as hexdump and od print it.
 const ADDRESS_DIGITS: usize = 7;
@@ -16,32 +15,43 @@ const ADDRESS_DIGITS: usize = 7;
 const HALFWORD_DIGITS: usize = 4;
 
 /// What is wrong with an input of which no line is an area.
-pub(crate) fn dumps_cause(input: &[u8]) -> (What<'_>, Option<Slip>) {
+pub(crate) fn dumps_cause(input: &[u8]) -> Cause<'_> {
     if input.is_empty() {
-        return (What::Empty(Expected::Dumps), None);
+        return empty_cause(Expected::Dumps);
     }
-    (What::NoDump, slip_of_dumps(input))
+    let no_dump = Sentence::of(
+        "no line of the input is an area; print it as xxd, od -t x4, U-Boot's md.l or gdb's x/71xw \
+         do (docs/DECODE.md has all forms)",
+    );
+    (What::Said(no_dump), slip_of_dumps(input))
 }
 
 /// The slip in an input without an area.
 fn slip_of_dumps(input: &[u8]) -> Option<Slip> {
     let line = first_line(input);
     if input.contains(&0) {
-        return Some(Slip::NoText);
+        let text = "it has a zero byte, so it is not text; decode it with -b";
+        return Some(Sentence::of(text));
     }
-    if begins_with_mark(line) {
-        return Some(Slip::ByteOrderMark);
-    }
-    if is_mode(line) {
-        return Some(Slip::SessionFirst);
-    }
-    if begins_as(&HEADINGS, line) {
-        return Some(Slip::BoardGiven);
-    }
-    if has_decimal_addresses(input) {
-        return Some(Slip::DecimalAddresses);
-    }
-    has_halfwords(line).then_some(Slip::Halfwords)
+    slip_of_mark(line).or(slip_of_rows(input, line))
+}
+
+/// The slip in a text without an area.
+fn slip_of_rows(input: &[u8], line: &[u8]) -> Option<Slip> {
+    let text = match line {
+        _ if is_mode(line) => "it is the mode of a script, which scmi run takes",
+        _ if begins_as(&HEADINGS, line) => {
+            "it is a board, which scmi session, check and table take"
+        }
+        _ if has_decimal_addresses(input) => {
+            "its addresses are decimal; print it with xxd or hexdump -C alone, or od -A x"
+        }
+        _ if has_halfwords(line) => {
+            "it looks like hexdump without -C; print it with hexdump -C or od -t x1"
+        }
+        _ => return None,
+    };
+    Some(Sentence::of(text))
 }
 
 /// What the decimal addresses of second rows of 16 bytes end in, and those of further rows.
@@ -51,7 +61,7 @@ const DECIMAL_ENDS: [&[u8]; 3] = [b"016", b"032", b"048"];
 /// more than that if rows repeat.
 fn has_decimal_addresses(input: &[u8]) -> bool {
     let mut is_behind = false;
-    for line in input.split(|byte| *byte == b'\n') {
+    for line in input.split(is_line_feed) {
         let address = address_of(line);
         if address.is_empty() {
             continue;
@@ -91,12 +101,11 @@ fn is_zero_but(digits: &[u8], end: &[u8]) -> bool {
 
 /// Whether a line looks like a row of numbers of 16 bits after an address.
 fn has_halfwords(line: &[u8]) -> bool {
-    let mut items = Items::new(line);
-    is_digits(items.next_item().unwrap_or(&[]), ADDRESS_DIGITS)
-        && is_digits(items.next_item().unwrap_or(&[]), HALFWORD_DIGITS)
+    is_digits(item_at(line, 0).unwrap_or(b""), ADDRESS_DIGITS)
+        && is_digits(item_at(line, 1).unwrap_or(b""), HALFWORD_DIGITS)
 }
 
 /// Whether an item is this many hexadecimal digits.
 fn is_digits(item: &[u8], count: usize) -> bool {
-    item.len() == count && item.iter().all(|byte| byte.is_ascii_hexdigit())
+    item.len() == count && are_hexadecimal(item)
 }

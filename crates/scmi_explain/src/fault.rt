@@ -1,6 +1,7 @@
 //! The fault that a program wrote as its last line.
 
-use scmi_board::Items;
+use scmi_board::{byte, word};
+use scmi_io::{AREA, BOARD, FAULT, LIMIT, MEMORY, MODE, PLAN, READ, SCRIPT, SIZE};
 
 /// Why a program refused its input or stopped, by its last line.
 #[derive(Clone, Copy, PartialEq, Eq)]
@@ -25,25 +26,39 @@ pub enum Fault {
     Memory,
 }
 
+/// The words of faults without a number.
+const PLAIN: [(&str, Fault); 6] = [
+    (MODE, Fault::Mode),
+    (SIZE, Fault::Size),
+    (READ, Fault::Read),
+    (AREA, Fault::Area),
+    (LIMIT, Fault::Limit),
+    (MEMORY, Fault::Memory),
+];
+
 impl Fault {
     /// The fault that a line reports, without its line feed; `None` of any other line.
     pub fn of_line(line: &[u8]) -> Option<Fault> {
-        let mut items = Items::new(line);
-        if items.next_item().ok()? != b"fault".as_slice() {
-            return None;
+        let fault = line.strip_prefix(FAULT.as_bytes())?;
+        if let Some(line) = fault.strip_prefix(BOARD.as_bytes()) {
+            return word(line).map(Fault::Board);
         }
-        let fault = match items.next_item().ok()? {
-            b"mode" => Fault::Mode,
-            b"size" => Fault::Size,
-            b"read" => Fault::Read,
-            b"area" => Fault::Area,
-            b"board" => Fault::Board(items.next_word().ok()?),
-            b"script" => Fault::Script(items.next_word().ok()?),
-            b"plan" => Fault::Plan(items.next_byte().ok()?),
-            b"limit" => Fault::Limit,
-            b"memory" => Fault::Memory,
-            _ => return None,
-        };
-        items.is_done().then_some(fault)
+        if let Some(line) = fault.strip_prefix(SCRIPT.as_bytes()) {
+            return word(line).map(Fault::Script);
+        }
+        if let Some(rule) = fault.strip_prefix(PLAN.as_bytes()) {
+            return byte(rule).map(Fault::Plan);
+        }
+        plain_fault(fault)
     }
+}
+
+/// The fault without a number that has this word.
+fn plain_fault(text: &[u8]) -> Option<Fault> {
+    for (word, fault) in PLAIN {
+        if word.as_bytes() == text {
+            return Some(fault);
+        }
+    }
+    None
 }

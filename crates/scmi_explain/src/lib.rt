@@ -7,47 +7,37 @@
 //! are for the run the reader and the writer that they wrap.
 #![tactic(auto)]
 
-mod alternatives;
-mod area;
 mod board;
 mod causes;
 mod dumps;
-mod expected;
 mod explanation;
 mod fault;
-mod field;
-mod first_words;
+mod fields;
 mod fit;
 mod forms;
-mod item_fault;
 mod kept;
 mod last_line;
 mod mode;
 mod near;
-mod number_fault;
+mod numbers;
 mod other_file;
+mod piece;
 mod plan;
-mod plan_fault;
-mod quoted;
-mod rates_fault;
+mod rates;
 mod rows;
 mod script;
+mod sentence;
 mod size;
 mod slip;
 mod text;
-mod what;
-mod wrong;
+mod words;
 
-pub use alternatives::HardwareStatuses;
 pub use causes::explain;
-pub use expected::Expected;
 pub use explanation::Explanation;
 pub use fault::Fault;
-pub use first_words::FirstWords;
 pub use kept::Kept;
 pub use last_line::LastLine;
-pub use mode::MODES;
+pub use mode::{Expected, MODES};
 pub use near::nearest;
-pub use slip::Slip;
 pub use text::split_first;
-pub use what::What;
+pub use words::HardwareStatuses;

@@ -1,17 +1,29 @@
 //! First lines that are no mode.
 
-use crate::expected::Expected;
+use crate::explanation::{Cause, What, said};
 use crate::fit::begins_as;
-use crate::forms::{HEADINGS, ROWS};
-use crate::near::nearest;
+use crate::forms::{HEADINGS, rows};
 use crate::other_file::{is_of_record, slip_of_other_file};
+use crate::piece::Piece;
 use crate::rows::Rows;
-use crate::slip::{Slip, slip_of_bytes, slip_of_other_bytes};
-use crate::text::{behind_first, first_line};
-use crate::what::What;
+use crate::sentence::{Sentence, Slip};
+use crate::slip::{slip_near, slip_of_bytes, slip_of_other_bytes};
+use crate::text::{are_hexadecimal, behind_first, first_line};
 use scmi_board::is_significant;
 use std::alloc::Global;
+use std::fmt;
 use std::str::from_utf8;
+
+/// What a program was to be given.
+#[derive(Clone, Copy, PartialEq, Eq)]
+pub enum Expected {
+    /// A mode, and what the mode reads.
+    Session,
+    /// A mode of one thread, a board and a script.
+    Drawing,
+    /// Dumps of areas, one a line.
+    Dumps,
+}
 
 /// The texts of all modes that the program for people takes.
 pub const MODES: [&str; 7] = [
@@ -27,18 +39,45 @@ pub const MODES: [&str; 7] = [
 /// The fewest digits of a line that may be meant as an area.
 const AREA_LIKE_DIGITS: usize = 56;
 
-/// What is wrong with a first line that is no mode.
-pub(crate) fn mode_cause(
-    alloc: Global,
+/// Writes what was expected of an input.
+pub(crate) fn write_wanted<W: fmt::Write>(
+    f: &mut fmt::Formatter<W>,
     expected: Expected,
-    input: &[u8],
-) -> (What<'_>, Option<Slip>) {
+) -> fmt::Result {
+    f.write_str(match expected {
+        Expected::Drawing => {
+            "line 1 must be the mode of steps, hardware or threads, such as steps words"
+        }
+        Expected::Dumps => "expected dumps of areas, as xxd prints them",
+        Expected::Session => return write_modes(f),
+    })
+}
+
+fn write_modes<W: fmt::Write>(f: &mut fmt::Formatter<W>) -> fmt::Result {
+    f.write_str("line 1 must be one of")?;
+    let mut before = " ";
+    for mode in MODES {
+        write!(f, "{before}{mode}")?;
+        before = ", ";
+    }
+    Ok(())
+}
+
+/// What is wrong with an input that is empty.
+pub(crate) fn empty_cause<'a>(expected: Expected) -> Cause<'a> {
+    let wanted = [Piece::Wanted(expected)];
+    said(Sentence::filled("the input is empty; %", &wanted))
+}
+
+/// What is wrong with a first line that is no mode.
+pub(crate) fn mode_cause(alloc: Global, expected: Expected, input: &[u8]) -> Cause<'_> {
     if input.is_empty() {
-        return (What::Empty(expected), None);
+        return empty_cause(expected);
     }
     let line = first_line(input);
+    let pieces = [Piece::Wanted(expected), Piece::Quoted];
     (
-        What::NoMode(line, expected),
+        What::Said(Sentence::quoting("%; found %", line, &pieces)),
         slip_of_mode(alloc, input, line),
     )
 }
@@ -46,12 +85,12 @@ pub(crate) fn mode_cause(
 /// The slip that probably caused a first line that is no mode.
 fn slip_of_mode(alloc: Global, input: &[u8], line: &[u8]) -> Option<Slip> {
     if is_mode(line) {
-        return Some(Slip::OnlyRun);
+        return Some(Sentence::of("that mode is run by scmi run, and not drawn"));
     }
     slip_of_bytes(line)
         .or(slip_of_record(input, line))
         .or(slip_of_other_input(line))
-        .or(slip_of_word(alloc, line))
+        .or(slip_of_text(alloc, line))
         .or(slip_of_other_bytes(line))
 }
 
@@ -65,41 +104,39 @@ fn slip_of_record(input: &[u8], first: &[u8]) -> Option<Slip> {
     if is_significant(first) {
         return None;
     }
-    for row in Rows::all(behind_first(input)) {
-        return is_of_record(row.text).then_some(Slip::RecordBehind);
-    }
-    None
+    let row = Rows::all(behind_first(input)).next()?;
+    is_of_record(row.text).then_some(Sentence::of(
+        "a line of a record follows, which scmi check takes after its board, or of what a run \
+         writes",
+    ))
 }
 
 /// The slip of a line that belongs into another place, or to another program.
 fn slip_of_other_input(line: &[u8]) -> Option<Slip> {
-    match line {
-        [] | [b'#', ..] => return Some(Slip::RemarkFirst),
-        [b'<', ..] => return Some(Slip::Picture),
-        _ => {}
-    }
-    if begins_as(&HEADINGS, line) || begins_as(&ROWS, line) {
-        return Some(Slip::BoardFirst);
-    }
-    if line.len() >= AREA_LIKE_DIGITS && line.iter().all(|byte| byte.is_ascii_hexdigit()) {
-        return Some(Slip::AreaFirst);
-    }
-    slip_of_other_file(line)
+    let text = match line {
+        [] | [b'#', ..] => "comments and empty lines may only follow line 1",
+        [b'<', ..] => "it is a picture (SVG), or other markup",
+        _ if begins_as(&HEADINGS, line) || begins_as(rows(), line) => {
+            "the mode needs a line of its own before the board"
+        }
+        _ if is_like_area(line) => {
+            "before an area comes the line \"once\"; scmi decode takes the area alone"
+        }
+        _ => return slip_of_other_file(line),
+    };
+    Some(Sentence::of(text))
+}
+
+fn is_like_area(line: &[u8]) -> bool {
+    line.len() >= AREA_LIKE_DIGITS && are_hexadecimal(line)
 }
 
 /// The slip of a line that is nearly a mode.
-fn slip_of_word(alloc: Global, line: &[u8]) -> Option<Slip> {
-    if MODES
-        .iter()
-        .any(|mode| mode.as_bytes().eq_ignore_ascii_case(line))
-    {
-        return Some(Slip::Case);
+fn slip_of_text(alloc: Global, line: &[u8]) -> Option<Slip> {
+    match line {
+        b"steps" | b"threads" | b"hardware" => {
+            Some(Sentence::of("is \"words\" or \"rings\" missing after it?"))
+        }
+        _ => slip_near(alloc, &MODES, from_utf8(line).ok()?),
     }
-    if line == b"steps".as_slice()
-        || line == b"threads".as_slice()
-        || line == b"hardware".as_slice()
-    {
-        return Some(Slip::NoKind);
-    }
-    nearest(alloc, &MODES, from_utf8(line).ok()?).map(Slip::Nearest)
 }

@@ -2,9 +2,8 @@
 ghost use Rattle.std.specs.Prelude.{length};
 ghost use Rattle.std.specs.Iterator.{at_most};
 
-use crate::plan_fault::Kind;
-use crate::text::first_word;
-use scmi_board::{Lines, TextLine};
+use crate::text::begins_with;
+use scmi_board::{END, Lines, TextLine};
 
 /// The lines that are left of an input after its first one, but for comments and empty ones: all,
 /// or those of the board, from its line `board` to before its line `end`.
@@ -39,7 +38,7 @@ impl<'a> Iterator for Rows<'a> {
 
     fn next(&mut self) -> Option<TextLine<'a>> {
         let row = self.lines.next_line()?;
-        if self.stops_at_end && row.text == b"end".as_slice() {
+        if self.stops_at_end && row.text == END {
             return None;
         }
         Some(row)
@@ -47,12 +46,26 @@ impl<'a> Iterator for Rows<'a> {
 }
 
 /// How many rows of a kind a board has, which follows the first line.
-pub(crate) fn count_of(board: &[u8], kind: Kind) -> u32 {
+pub(crate) fn count_of(board: &[u8], kind: &str) -> u32 {
     let mut count = 0u32;
     for row in Rows::of_board(board) {
-        if first_word(row.text) == kind.word() {
+        if begins_with(row.text, kind) {
             count = count.saturating_add(1);
         }
     }
     count
+}
+
+/// The line of the row of a kind that comes after this many of them.
+pub(crate) fn line_behind(board: &[u8], kind: &str, most: u32) -> Option<u32> {
+    let mut left = most;
+    for row in Rows::of_board(board) {
+        if begins_with(row.text, kind) {
+            if left == 0 {
+                return Some(row.number);
+            }
+            left -= 1;
+        }
+    }
+    None
 }

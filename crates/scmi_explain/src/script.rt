@@ -1,137 +1,109 @@
 //! Lines that are not of a script.
 
-use crate::board::slip_of_word;
-use crate::first_words::FirstWords;
-use crate::fit::{Fit, begins_as, fit_of, fits_well};
-use crate::forms::{Form, HARDWARE_STEPS, HEADINGS, ORDERS, ROWS, STEPS};
+use crate::board::NOT_KEPT;
+use crate::explanation::{Cause, What, plain};
+use crate::fit::{EXTRA, Fit, MISSING, begins_as, fit_of, fits_well};
+use crate::forms::{Form, HEADINGS, ORDERS, SCRIPT_LINES, STEPS, rows};
+use crate::numbers::NO_NUMBER;
+use crate::piece::Piece;
 use crate::rows::Rows;
-use crate::slip::{Slip, slip_of_bytes, slip_of_other_bytes};
-use crate::text::{behind_first, first_line, first_word, line_at, second_number};
-use crate::what::What;
-use crate::wrong::Wrong;
+use crate::sentence::{Sentence, Slip};
+use crate::slip::{slip_of_bytes, slip_of_other_bytes, slip_of_word};
+use crate::text::{begins_with, behind_first, first_line, first_word, line_at, second_number};
 use std::alloc::Global;
 
-/// The scripts that a mode has.
-#[derive(Clone, Copy, PartialEq, Eq)]
-enum Script {
-    /// One on one thread.
-    Steps,
-    /// One on one thread, beside hardware that refuses, and of agents that restart.
-    Hardware,
-    /// One for each agent.
-    Orders,
+/// The lines of the scripts on one thread.
+fn steps() -> &'static [Form] {
+    let lines: &'static [Form] = &SCRIPT_LINES;
+    &lines[..STEPS]
 }
 
-impl Script {
-    /// The scripts of the mode that is the first line.
-    fn of_mode(line: &[u8]) -> Script {
-        match first_word(line) {
-            b"threads" => Script::Orders,
-            b"hardware" => Script::Hardware,
-            _ => Script::Steps,
-        }
-    }
-
-    /// How a line fits the forms of such a script, which follows this board.
-    fn fits<'a>(self, line: &'a [u8], board: &[u8]) -> Fit<'a> {
-        match self {
-            Script::Steps => fit_of(&STEPS, line, board),
-            Script::Orders => fit_of(&ORDERS, line, board),
-            Script::Hardware => match fit_of(&STEPS, line, board) {
-                Fit::Well => Fit::Well,
-                plain => match fit_of(&HARDWARE_STEPS, line, board) {
-                    Fit::Unknown => plain,
-                    found => found,
-                },
-            },
-        }
-    }
-
-    /// The words that its lines begin with.
-    fn words(self) -> FirstWords {
-        match self {
-            Script::Steps => FirstWords::of(&STEPS),
-            Script::Hardware => FirstWords {
-                forms: &STEPS,
-                more: &HARDWARE_STEPS,
-            },
-            Script::Orders => FirstWords::of(&ORDERS),
-        }
+/// The lines of the scripts of the mode that is the first line.
+fn forms_of(mode: &[u8]) -> &'static [Form] {
+    match first_word(mode) {
+        b"threads" => &ORDERS,
+        b"hardware" => &SCRIPT_LINES,
+        _ => steps(),
     }
 }
-
-/// The forms of each kind of script, and the modes that have it.
-const OTHERS: [(Script, &[Form], &str); 3] = [
-    (Script::Steps, &STEPS, "steps and hardware"),
-    (Script::Hardware, &HARDWARE_STEPS, "hardware"),
-    (Script::Orders, &ORDERS, "threads"),
-];
 
 /// What is wrong with the line of a number, which is not one of a script.
-pub(crate) fn script_cause(alloc: Global, input: &[u8], number: u32) -> (What<'_>, Option<Slip>) {
+pub(crate) fn script_cause(alloc: Global, input: &[u8], number: u32) -> Cause<'_> {
     let Some(line) = line_at(input, number) else {
-        return (What::NotKept, None);
+        return plain(NOT_KEPT);
     };
-    let script = Script::of_mode(first_line(input));
-    let no_step = What::NoStep(line, script.words());
-    if let Some(slip) = slip_of_bytes(line) {
-        return (no_step, Some(slip));
+    let forms = forms_of(first_line(input));
+    let no_step = What::Said(Sentence::quoting(
+        "unknown line % of a script; expected one that begins with %",
+        line,
+        &[Piece::Quoted, Piece::FirstWord(forms)],
+    ));
+    let slip = slip_of_bytes(line);
+    if slip.is_some() {
+        return (no_step, slip);
     }
     let board = behind_first(input);
-    match script.fits(line, board) {
+    match fit_of(forms, line, board) {
         Fit::Until(fault) => {
-            let slip = slip_of_items(script, line, board, fault.wrong);
+            let slip = slip_of_item(forms, line, board, fault.wrong.text);
             (What::Item(fault), slip.or(slip_of_other_bytes(line)))
         }
-        Fit::Unknown => (no_step, slip_of_unknown(alloc, script, line)),
+        Fit::Unknown => (no_step, slip_of_unknown(alloc, forms, line)),
         Fit::Well => (order_fault(input, line, number).unwrap_or(no_step), None),
     }
 }
 
 /// The slip of a line with an item that is not a number, or too few or too many for these scripts: it
 /// may be one of other modes.
-fn slip_of_items(script: Script, line: &[u8], board: &[u8], wrong: Wrong) -> Option<Slip> {
-    match wrong {
-        Wrong::Number(fault) if script == Script::Steps && fault.is_form() => {
-            return Some(Slip::Names);
-        }
-        Wrong::Missing | Wrong::Extra => {}
-        _ => return None,
+fn slip_of_item(forms: &[Form], line: &[u8], board: &[u8], wrong: &str) -> Option<Slip> {
+    if wrong == NO_NUMBER && forms.len() == STEPS {
+        return Some(Sentence::of("names are for the modes hardware"));
     }
-    for (other, forms, modes) in OTHERS {
-        if other != script && fits_well(forms, line, board) {
-            return Some(Slip::OtherMode(modes));
-        }
+    if wrong != MISSING && wrong != EXTRA {
+        return None;
     }
-    None
+    slip_of_modes(
+        fits_well(steps(), line, board),
+        fits_well(&SCRIPT_LINES, line, board),
+        fits_well(&ORDERS, line, board),
+    )
 }
 
 /// The slip of a line whose first word is not one of these scripts.
-fn slip_of_unknown(alloc: Global, script: Script, line: &[u8]) -> Option<Slip> {
-    for (other, forms, modes) in OTHERS {
-        if other != script && begins_as(forms, line) {
-            return Some(Slip::OtherMode(modes));
-        }
+fn slip_of_unknown(alloc: Global, forms: &'static [Form], line: &[u8]) -> Option<Slip> {
+    if begins_as(rows(), line) || begins_as(&HEADINGS, line) {
+        return Some(Sentence::of("it belongs on the board, which ended before"));
     }
-    if begins_as(&ROWS, line) || begins_as(&HEADINGS, line) {
-        return Some(Slip::BoardEnded);
-    }
-    slip_of_word(alloc, script.words(), line)
+    slip_of_modes(
+        begins_as(steps(), line),
+        begins_as(&SCRIPT_LINES, line),
+        begins_as(&ORDERS, line),
+    )
+    .or(slip_of_word(alloc, forms, line))
+}
+
+/// The slip of a line of the scripts of other modes.
+fn slip_of_modes(is_step: bool, is_of_hardware: bool, is_order: bool) -> Option<Slip> {
+    Some(Sentence::of(match (is_step, is_of_hardware, is_order) {
+        (true, _, _) => "it is a line of the modes steps and hardware",
+        (_, true, _) => "it is a line of the modes hardware",
+        (_, _, true) => "it is a line of the modes threads",
+        _ => return None,
+    }))
 }
 
 /// What is wrong with the line of a number that has a form of an agent's script.
 fn order_fault<'a>(input: &'a [u8], line: &'a [u8], number: u32) -> Option<What<'a>> {
-    if first_word(line) != b"script".as_slice() {
-        return Some(What::NoScript(line));
+    if !begins_with(line, "script") {
+        let text = "% comes before the first line \"script A\", which says whose lines follow";
+        return Some(What::Said(Sentence::quoting(text, line, &[Piece::Quoted])));
     }
-    for begun in Rows::all(behind_first(input)) {
-        if begun.number < number && begins_script_of(begun.text, second_number(line)) {
-            return Some(What::SecondScript(begun.number));
-        }
-    }
-    None
-}
-
-fn begins_script_of(line: &[u8], agent: Option<u32>) -> bool {
-    first_word(line) == b"script".as_slice() && second_number(line) == agent
+    let agent = second_number(line);
+    let begun = Rows::all(behind_first(input)).find(|row| {
+        row.number < number && begins_with(row.text, "script") && second_number(row.text) == agent
+    })?;
+    Some(What::Said(Sentence::filled(
+        "the agent has a script already, at line %",
+        &[Piece::Number(u64::from(begun.number))],
+    )))
 }

@@ -1,30 +1,36 @@
 //! Inputs that are too long.
 
-use crate::expected::Expected;
+use crate::explanation::{Cause, plain, said};
+use crate::mode::Expected;
+use crate::piece::Piece;
 use crate::rows::Rows;
+use crate::sentence::Sentence;
 use crate::text::{behind_first, first_line};
-use crate::what::What;
+use scmi_board::END;
 use scmi_io::INPUT_BYTES;
 
 /// The most steps of a script that is drawn.
 const DRAWN_STEPS: usize = 2_000;
 
 /// What is too long about an input, of which the first bytes are given.
-pub(crate) fn size_cause(expected: Expected, input: &[u8]) -> What<'static> {
+pub(crate) fn size_cause(expected: Expected, input: &[u8]) -> Cause<'_> {
+    let first = first_line(input);
     if expected == Expected::Drawing {
-        if first_line(input).starts_with(b"threads ") && input.len() < INPUT_BYTES {
-            return What::LongRun;
+        if first.starts_with(b"threads ") && input.len() < INPUT_BYTES {
+            return plain("a chart has at most 2,000 steps, and this run has more");
         }
         let steps = steps_of(behind_first(input));
         if steps > DRAWN_STEPS {
-            return What::ManySteps(steps);
+            let text = "a chart has at most 2,000 steps, and this script has %";
+            let pieces = [Piece::Number(steps as u64)];
+            return said(Sentence::filled(text, &pieces));
         }
     }
-    match expected {
-        Expected::Dumps => What::LongInput,
-        _ if first_line(input).len() >= INPUT_BYTES => What::LongLine,
-        _ => What::Long,
-    }
+    plain(match expected {
+        Expected::Dumps => "the input is longer than 1,048,576 bytes",
+        _ if first.len() >= INPUT_BYTES => "the first line is longer than 1,048,576 bytes",
+        _ => "the input after line 1 is longer than 1,048,576 bytes",
+    })
 }
 
 /// How many lines of a script follow the board.
@@ -32,10 +38,8 @@ fn steps_of(behind_first: &[u8]) -> usize {
     let mut steps = 0usize;
     let mut has_ended = false;
     for row in Rows::all(behind_first) {
-        if has_ended {
-            steps = steps.saturating_add(1);
-        }
-        has_ended |= row.text == b"end".as_slice();
+        steps = steps.saturating_add(usize::from(has_ended));
+        has_ended |= row.text == END;
     }
     steps
 }

@@ -1,11 +1,12 @@
 //! Words of which one is expected.
 
+use crate::forms::Form;
 use scmi_codec::{Fault, STATUSES};
 use std::fmt;
 
 /// Words that are written one by one, with commas between them and "or" before the last.
 #[derive(Drop)]
-pub(crate) struct Alternatives {
+struct Alternatives {
     /// What stands around each word.
     mark: &'static str,
     /// The last word so far, which is not yet written.
@@ -15,7 +16,7 @@ pub(crate) struct Alternatives {
 
 impl Alternatives {
     /// None so far, each with this before and behind it.
-    pub(crate) fn new(mark: &'static str) -> Alternatives {
+    fn new(mark: &'static str) -> Alternatives {
         Alternatives {
             mark,
             held: "",
@@ -24,11 +25,7 @@ impl Alternatives {
     }
 
     /// One more.
-    pub(crate) fn add<W: fmt::Write>(
-        &mut self,
-        f: &mut fmt::Formatter<W>,
-        word: &'static str,
-    ) -> fmt::Result {
+    fn add<W: fmt::Write>(&mut self, f: &mut fmt::Formatter<W>, word: &'static str) -> fmt::Result {
         if !self.held.is_empty() {
             self.write(f, self.between)?;
             self.between = ", ";
@@ -38,7 +35,7 @@ impl Alternatives {
     }
 
     /// No more.
-    pub(crate) fn end<W: fmt::Write>(&self, f: &mut fmt::Formatter<W>) -> fmt::Result {
+    fn end<W: fmt::Write>(&self, f: &mut fmt::Formatter<W>) -> fmt::Result {
         self.write(f, if self.between.is_empty() { "" } else { " or " })
     }
 
@@ -65,4 +62,36 @@ impl fmt::Display for HardwareStatuses {
         }
         names.end(f)
     }
+}
+
+/// Writes the words of an item of a form, in quotes.
+pub(crate) fn write_either<W: fmt::Write>(
+    f: &mut fmt::Formatter<W>,
+    item: &'static str,
+) -> fmt::Result {
+    let mut words = Alternatives::new("\"");
+    for word in item.split(is_between_words) {
+        words.add(f, word)?;
+    }
+    words.end(f)
+}
+
+/// Whether a character is between the words of an item of a form.
+pub(crate) fn is_between_words(letter: char) -> bool {
+    letter == '|' || letter == '/'
+}
+
+/// Writes the first words of forms of lines, each once, in the order of the forms.
+pub(crate) fn write_first_words<W: fmt::Write>(
+    f: &mut fmt::Formatter<W>,
+    forms: &'static [Form],
+) -> fmt::Result {
+    let mut words = Alternatives::new("");
+    for (place, form) in forms.iter().enumerate() {
+        let word = form.word();
+        if !forms.iter().take(place).any(|before| before.word() == word) {
+            words.add(f, word)?;
+        }
+    }
+    words.end(f)
 }
