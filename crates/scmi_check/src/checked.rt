@@ -9,7 +9,7 @@ pub const DIFFERS: u8 = 5;
 pub const UNSURE: u8 = 6;
 
 /// A record that was checked, whose entries and notes its listener was given.
-#[derive(PartialEq, Eq, Debug, Drop)]
+#[derive(Drop)]
 pub struct Checked {
     /// Whether an entry that is judged differs, but by a rule of the profile's own.
     pub differs: bool,

@@ -4,7 +4,7 @@ use crate::note::NoteKind;
 
 /// How many entries are the same, differ by a rule of the profile's own, and differ; and how many
 /// commands are unanswered, and responses unmatched. Each stays at 2^64 - 1.
-#[derive(Clone, Copy, PartialEq, Eq, Debug)]
+#[derive(Clone, Copy)]
 pub(crate) struct Counts {
     pub same: u64,
     pub own: u64,

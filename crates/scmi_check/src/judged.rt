@@ -12,7 +12,7 @@ use scmi_core::CoreError;
 use scmi_judge::{Entry, Judge, Verdict, in_place};
 
 /// An entry of a record at its line, with the verdict on it.
-#[derive(PartialEq, Eq, Debug, Drop)]
+#[derive(Drop)]
 pub struct Judged {
     pub line: u32,
     pub entry: Entry,

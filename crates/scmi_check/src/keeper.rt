@@ -6,7 +6,7 @@ use crate::note::Note;
 
 /// What is found of a record, in the order in which it is found. As a listener it keeps what it is
 /// given.
-#[derive(PartialEq, Eq, Debug, Drop)]
+#[derive(Drop)]
 pub struct Keeper {
     pub judged: Vec<Judged>,
     pub notes: Vec<Note>,

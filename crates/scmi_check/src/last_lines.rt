@@ -4,7 +4,7 @@
 const LINES: usize = 32;
 
 /// The lines of the last entries that did not differ.
-#[derive(Debug, Drop)]
+#[derive(Drop)]
 pub(crate) struct LastLines {
     // In the order of the entries, round and round.
     lines: [u32; LINES],

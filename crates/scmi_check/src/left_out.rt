@@ -8,7 +8,7 @@ use scmi_codec::Frame;
 use std::alloc::{AllocError, Global};
 
 /// What a record has that is not judged.
-#[derive(PartialEq, Eq, Debug, Drop)]
+#[derive(Drop)]
 pub struct LeftOut {
     /// What is noted, in the order in which it was found.
     pub notes: Vec<Note>,

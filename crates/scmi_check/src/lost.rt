@@ -1,7 +1,7 @@
 //! How many events of a trace are lost.
 
 /// How many events of a trace are lost before a line.
-#[derive(Clone, Copy, PartialEq, Eq, Debug)]
+#[derive(Clone, Copy, PartialEq, Eq)]
 pub enum Lost {
     /// So many.
     Events(u64),

@@ -15,7 +15,7 @@ pub trait Names {
 }
 
 /// No names: each line is read as it is.
-#[derive(Clone, Copy, Debug)]
+#[derive(Clone, Copy)]
 pub struct NoNames;
 
 impl Names for NoNames {

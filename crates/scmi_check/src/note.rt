@@ -2,14 +2,14 @@
 use crate::lost::Lost;
 
 /// What a record has that is not judged, with the number of its line.
-#[derive(Clone, Copy, PartialEq, Eq, Debug)]
+#[derive(Clone, Copy)]
 pub struct Note {
     pub line: u32,
     pub kind: NoteKind,
 }
 
 /// Why it is not judged.
-#[derive(Clone, Copy, PartialEq, Eq, Debug)]
+#[derive(Clone, Copy, PartialEq, Eq)]
 pub enum NoteKind {
     /// A command that has no answer.
     Unanswered,

@@ -2,7 +2,7 @@
 use scmi_judge::Unseen;
 
 /// What is judged of a record.
-#[derive(Clone, Copy, Debug)]
+#[derive(Clone, Copy)]
 pub struct CheckOptions<'a> {
     /// The protocols whose messages are judged.
     pub protocols: &'a [u8],

@@ -3,7 +3,7 @@ use scmi_judge::Entry;
 
 /// An entry of a record, with the number of the line that shows it: that of the answer, or of the
 /// message.
-#[derive(PartialEq, Eq, Debug, Drop)]
+#[derive(Drop)]
 pub struct Placed {
     pub line: u32,
     pub entry: Entry,

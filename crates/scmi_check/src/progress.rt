@@ -18,7 +18,7 @@ use crate::placed::Placed;
 use scmi_judge::{Entry, Judge};
 
 /// How far the entries of a record are judged.
-#[derive(Debug, Drop)]
+#[derive(Drop)]
 pub(crate) struct Progress {
     judge: Judge,
     // The lines to which the judge may look back.

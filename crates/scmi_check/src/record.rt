@@ -14,7 +14,7 @@ use scmi_board::{LineError, Lines, TextError, TextLine};
 use std::alloc::Global;
 
 /// A record: its entries, in the order in which they were found, and what it has that is not judged.
-#[derive(PartialEq, Eq, Debug, Drop)]
+#[derive(Drop)]
 pub struct Record {
     pub entries: Vec<Placed>,
     pub left: LeftOut,

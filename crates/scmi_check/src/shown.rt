@@ -19,7 +19,7 @@ use std::alloc::Global;
 pub(crate) const REPORT: &[u8] = b"report";
 
 /// What a line of a record shows.
-#[derive(PartialEq, Eq, Debug, Drop)]
+#[derive(Drop)]
 pub(crate) enum Shown {
     /// An agent posts a command with its next token.
     Called { agent: u32, call: Call },

@@ -1,7 +1,7 @@
 //! The form of a report.
 
 /// The form of a report.
-#[derive(Clone, Copy, PartialEq, Eq, Debug)]
+#[derive(Clone, Copy)]
 pub enum Style {
     /// A line for each entry.
     Plain,

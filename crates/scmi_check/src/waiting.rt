@@ -7,7 +7,7 @@ use scmi_board::LineError;
 use scmi_codec::{Frame, Message};
 
 /// A command whose answer is still to come, and the number of its line.
-#[derive(PartialEq, Eq, Debug, Drop)]
+#[derive(Drop)]
 pub(crate) struct Waiting {
     pub line: u32,
     pub agent: u32,
@@ -15,7 +15,7 @@ pub(crate) struct Waiting {
 }
 
 /// A response of an agent that answers no command which waits, by its token.
-#[derive(Clone, Copy, PartialEq, Eq, Debug)]
+#[derive(Clone, Copy)]
 pub(crate) struct Early {
     pub agent: u32,
     pub token: u16,

@@ -6,7 +6,7 @@ use scmi_codec::{Answer, Frame, Message};
 use scmi_plan::Report;
 
 /// One entry of a record of what went over a platform's channels, at its place in time.
-#[derive(Clone, PartialEq, Eq, Debug, Drop)]
+#[derive(Clone, Drop)]
 pub enum Entry {
     /// A command of an agent, with the answer that it got. It is executed here.
     Answered {

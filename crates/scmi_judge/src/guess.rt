@@ -26,7 +26,7 @@ use scmi_plan::{AGENTS, Plan, Report};
 
 /// A platform that may be behind a record, with the message in the channel to each agent that was
 /// posted and that no entry shows yet, and the commands that are answered later.
-#[derive(Debug, Drop)]
+#[derive(Drop)]
 pub(crate) struct Guess {
     pub platform: Platform,
     // That to agent a at index a - 1.

@@ -12,7 +12,7 @@ use crate::unseen::{ACTS, Act, Step, Unseen};
 use std::mem;
 
 /// Guesses of one board, in places that are there from the start.
-#[derive(Debug, Drop)]
+#[derive(Drop)]
 pub(crate) struct Guesses {
     // Those of which it is still to be tried what they move on to. Between two entries these are
     // all.

@@ -21,7 +21,7 @@ use std::marker::Model;
 /// A judge of a platform of a board, by all platforms that may be behind the entries so far.
 /// Contracts see the board, what may happen that no entry shows, those platforms, the places for
 /// more, and whether it still judges.
-#[derive(Drop, Debug)]
+#[derive(Drop)]
 pub struct Judge {
     guesses: Guesses,
     // Whether it still judges.

@@ -9,7 +9,7 @@ use crate::stop::Stop;
 use std::alloc::Global;
 
 /// Guesses as they were before an entry, to go back to.
-#[derive(Debug, Drop)]
+#[derive(Drop)]
 pub(crate) struct Kept {
     // None if there were more than places.
     pub guesses: Vec<Place>,

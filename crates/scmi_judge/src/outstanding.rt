@@ -7,7 +7,7 @@ use scmi_codec::{Answer, Frame};
 pub const OUTSTANDING: usize = 8;
 
 /// A command of an agent that waits for its answer in a record.
-#[derive(Debug, Drop)]
+#[derive(Drop)]
 pub(crate) struct Outstanding {
     pub agent: u32,
     pub frame: Frame,

@@ -14,7 +14,7 @@ use std::alloc::Global;
 use std::marker::Model;
 
 /// A guess in a box: a guess is large, and moving a place moves a pointer. Contracts see the guess.
-#[derive(Debug, Drop)]
+#[derive(Drop)]
 pub(crate) struct Place {
     guess: Box<Guess>,
 }

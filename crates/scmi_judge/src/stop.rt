@@ -1,7 +1,7 @@
 //! Why no more guesses are made.
 
 /// Why no more guesses are made.
-#[derive(Clone, Copy, PartialEq, Eq, Debug)]
+#[derive(Clone, Copy)]
 pub(crate) enum Stop {
     /// No place is free.
     Full,

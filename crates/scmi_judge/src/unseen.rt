@@ -6,7 +6,7 @@ use crate::outstanding::OUTSTANDING;
 use scmi_codec::Fault;
 
 /// What may happen that no entry shows by itself.
-#[derive(Clone, Copy, PartialEq, Eq, Debug)]
+#[derive(Clone, Copy)]
 pub(crate) enum Step {
     /// The first pending set completes.
     Complete,
@@ -24,7 +24,7 @@ pub(crate) enum Step {
 
 /// What may happen to each agent, or to the outstanding command at each place, that no entry shows
 /// by itself.
-#[derive(Clone, Copy, PartialEq, Eq, Debug)]
+#[derive(Clone, Copy)]
 pub(crate) enum Act {
     /// The first message for it is posted into its channel.
     Post,
@@ -66,7 +66,7 @@ impl Act {
 
 /// What may happen to a platform that no entry of a record shows by itself, beside pending sets
 /// that complete and messages that are posted.
-#[derive(Clone, Copy, PartialEq, Eq, Debug)]
+#[derive(Clone, Copy)]
 pub struct Unseen {
     /// Which changes of pending sets the hardware may refuse. If any, it may also refuse a command's
     /// change with another fault than HARDWARE_ERROR.
@@ -92,7 +92,7 @@ pub const NOTHING_UNSEEN: Unseen = Unseen {
 };
 
 /// Which changes of pending sets the hardware may refuse, so that no entry need show it by itself.
-#[derive(Clone, Copy, PartialEq, Eq, Debug)]
+#[derive(Clone, Copy)]
 pub enum Refusals {
     /// None.
     None,

@@ -3,7 +3,7 @@
 use scmi_codec::{Answer, Message};
 
 /// The verdict on an entry of a record, after the entries before it.
-#[derive(Clone, PartialEq, Eq, Debug, Drop)]
+#[derive(Clone, Drop)]
 pub enum Verdict {
     /// A legal history of the board is behind the entries with this one.
     Same,

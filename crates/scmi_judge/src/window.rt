@@ -17,7 +17,7 @@ const NOTED: usize = 16;
 
 /// The last entries that were the same, 16 of them at least, if there are so many, with the guesses
 /// before them: one of these entries may explain one that differs.
-#[derive(Debug, Drop)]
+#[derive(Drop)]
 pub(crate) struct Window {
     // What was left before the older entries.
     pub before: Kept,
