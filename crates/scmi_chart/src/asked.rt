@@ -41,7 +41,9 @@ fn command_label(alloc: Global, board: &RawPlan, message: &Message) -> Result<La
     let header = message.header;
     let mut label = name_label(alloc, name_of(alloc, header.protocol(), header.id())?);
     add_command(alloc, board, &mut label, message)?;
-    add_itself(alloc, &mut label, message)?;
+    if asks_for_itself(message) {
+        label.object = Vec::from_slice(alloc, ITSELF.as_bytes())?;
+    }
     add_kind(alloc, &mut label, header.kind())?;
     Ok(label)
 }
@@ -63,14 +65,6 @@ fn add_command(
             Ok(())
         }
     }
-}
-
-/// Adds that an agent asks for itself, if it does.
-fn add_itself(alloc: Global, label: &mut Label, message: &Message) -> Result<(), AllocError> {
-    if asks_for_itself(message) {
-        label.object = Vec::from_slice(alloc, ITSELF.as_bytes())?;
-    }
-    Ok(())
 }
 
 /// Whether a message is BASE_DISCOVER_AGENT of the number that means the caller there.

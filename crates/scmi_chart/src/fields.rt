@@ -1,14 +1,12 @@
 //! What the fields of a message add to its label.
 
 use crate::board_names::{agent_name, clock_name, domain_name};
-use crate::flags::{
-    add_permit_flags, add_power_flags, add_rate_flags, add_reset_flags, add_switch,
-};
+use crate::flags::{PERMIT, POWER, RATE, RESET, SWITCH, add_flags};
 use crate::label::{add_behind, add_remark, protocol_words};
-use crate::label_texts::{AGENTS, BY, DEVICE, FROM, PROTOCOLS, SKIP, VERSION};
+use crate::label_texts::{BY, COUNTS, DEVICE, FROM, SKIP, VERSION};
 use crate::mark::Label;
 use crate::value::{Value, filled_words};
-use crate::words::{counted_words, hex_words, name_words, numbered_words, rate_words, state_words};
+use crate::words::{hex_words, name_words, numbered_words, rate_words, state_words, switch_word};
 use scmi_decode::Field;
 use scmi_plan::RawPlan;
 use std::alloc::{AllocError, Global};
@@ -45,7 +43,10 @@ fn add_field(
         Field::Counts(word) => label.object = counts_words(alloc, *word)?,
         Field::State(state) => set_value(label, state_words(alloc, *state)?),
         Field::Rate(hertz) => set_value(label, rate_words(alloc, *hertz)?),
-        Field::Enable(bits) | Field::ClockAttributes(bits) => add_switch(alloc, label, *bits)?,
+        Field::Enable(bits) | Field::ClockAttributes(bits) => {
+            label.value = Vec::from_slice(alloc, switch_word(*bits).as_bytes())?;
+            add_flags(alloc, label, SWITCH, *bits)?;
+        }
         Field::Device(device) => label.value = numbered_words(alloc, DEVICE, *device)?,
         Field::Protocol(protocol) => {
             add_behind(&mut label.value, &protocol_words(alloc, *protocol)?)?;
@@ -53,10 +54,10 @@ fn add_field(
         Field::By(agent) => add_cause(alloc, board, label, *agent)?,
         Field::Index(index) => add_remark(label, &numbered_words(alloc, FROM, *index)?)?,
         Field::Skip(count) => add_remark(label, &numbered_words(alloc, SKIP, *count)?)?,
-        Field::PowerFlags(bits) => add_power_flags(alloc, label, *bits)?,
-        Field::PermitFlags(bits) => add_permit_flags(alloc, label, *bits)?,
-        Field::ResetFlags(bits) => add_reset_flags(alloc, label, *bits)?,
-        Field::RateFlags(bits) => add_rate_flags(alloc, label, *bits)?,
+        Field::PowerFlags(bits) => add_flags(alloc, label, POWER, *bits)?,
+        Field::PermitFlags(bits) => add_flags(alloc, label, PERMIT, *bits)?,
+        Field::ResetFlags(bits) => add_flags(alloc, label, RESET, *bits)?,
+        Field::RateFlags(bits) => add_flags(alloc, label, RATE, *bits)?,
         _ => {}
     }
     Ok(())
@@ -79,9 +80,8 @@ fn version_words(alloc: Global, word: u32) -> Result<Vec<u8>, AllocError> {
 
 /// How many agents and protocols there are.
 fn counts_words(alloc: Global, word: u32) -> Result<Vec<u8>, AllocError> {
-    let mut words = counted_words(alloc, AGENTS, word / 256 % 256)?;
-    add_behind(&mut words, &counted_words(alloc, PROTOCOLS, word % 256)?)?;
-    Ok(words)
+    let numbers = [Value::Number(word / 256 % 256), Value::Number(word % 256)];
+    filled_words(alloc, COUNTS, &numbers)
 }
 
 /// Adds who caused a change, as a comment.

@@ -54,11 +54,3 @@ pub(crate) fn add_behind(words: &mut Vec<u8>, more: &[u8]) -> Result<(), AllocEr
 pub(crate) fn add_remark(label: &mut Label, words: &[u8]) -> Result<(), AllocError> {
     add_behind(&mut label.tag, words)
 }
-
-/// Adds a comment if a condition holds.
-pub(crate) fn add_remark_if(label: &mut Label, holds: bool, words: &str) -> Result<(), AllocError> {
-    if holds {
-        return add_remark(label, words.as_bytes());
-    }
-    Ok(())
-}

@@ -47,7 +47,7 @@ pub(crate) const BY: &str = "by %";
 
 pub(crate) const VERSION: &str = "version %.%";
 
-pub(crate) const AGENTS: &str = "% agents";
+pub(crate) const COUNTS: &str = "% agents, % protocols";
 
 pub(crate) const PROTOCOLS: &str = "% protocols";
 

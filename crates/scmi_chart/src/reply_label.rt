@@ -5,7 +5,7 @@ use crate::label::{name_label, plain_label};
 use crate::label_texts::{CHANNEL_ERROR, NO_STATUS, PENDING, PROTOCOLS, RATES, RELEASED, TRIPLET};
 use crate::mark::{Label, Outcome};
 use crate::value::{Value, filled_words};
-use crate::words::{counted_words, hex_words, payload_words};
+use crate::words::{hex_words, payload_words};
 use scmi_codec::{Answer, CLOCK_PROTOCOL, Header, Message, Status};
 use scmi_decode::{reply_fields, status_name};
 use scmi_plan::RawPlan;
@@ -94,7 +94,7 @@ fn add_list(
 /// How many rates or protocols a list has, by its first word.
 fn list_words(alloc: Global, protocol: u8, word: u32) -> Result<Vec<u8>, AllocError> {
     if protocol != CLOCK_PROTOCOL {
-        return counted_words(alloc, PROTOCOLS, word);
+        return filled_words(alloc, PROTOCOLS, &[Value::Number(word)]);
     }
     if word / 4096 % 2 == 1 {
         return Vec::from_slice(alloc, TRIPLET.as_bytes());

@@ -102,17 +102,3 @@ pub(crate) fn write_fitted<W: Write>(
     write_escaped(writer, text)?;
     writer.write_all(b"</text>\n")
 }
-
-/// Writes a number with this class at a point.
-pub(crate) fn write_number<W: Write>(
-    writer: &mut W,
-    class: &str,
-    at: Point,
-    number: u32,
-) -> io::Result<()> {
-    let (x, y) = (at.x, at.y);
-    write!(
-        writer,
-        "<text class=\"{class}\" x=\"{x}\" y=\"{y}\">{number}</text>\n"
-    )
-}

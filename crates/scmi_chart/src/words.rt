@@ -36,11 +36,6 @@ pub(crate) fn numbered_words(
     filled_words(alloc, text, &[Value::Hex(number)])
 }
 
-/// This many of a kind.
-pub(crate) fn counted_words(alloc: Global, text: &str, count: u32) -> Result<Vec<u8>, AllocError> {
-    filled_words(alloc, text, &[Value::Number(count)])
-}
-
 /// A rate, as columns have it.
 pub(crate) fn rate_words(alloc: Global, hertz: u64) -> Result<Vec<u8>, AllocError> {
     let mut words = Vec::new(alloc);
