@@ -5,6 +5,7 @@ ghost use Rattle.scmi_chart.specs.Shown.{adds};
 
 use crate::arrows::{Way, answer_arrow};
 use crate::mark::{Mark, Side};
+use crate::parties::Event;
 use crate::recorder::Recorder;
 use crate::sign::outcome_of;
 use scmi_codec::Answer;
@@ -42,7 +43,7 @@ impl<'a> Recorder<'a> {
         let outcome = outcome_of(answer, self.laters.is_later(agent));
         let way = Way {
             agent,
-            slot: self.parties.settle(agent).unwrap_or(slot),
+            slot: self.parties.take(agent, Event::Answered).unwrap_or(slot),
             taken: slot,
         };
         let message = answer_arrow(self.alloc, self.board, way, answer, outcome)?;

@@ -5,6 +5,7 @@ ghost use Rattle.scmi_chart.specs.Shown.{adds};
 
 use crate::board_names::agent_name;
 use crate::mark::{Mark, Side};
+use crate::parties::Event;
 use crate::recorder::Recorder;
 use scmi_link::{CloseError, Closing, ShutError};
 use std::alloc::AllocError;
@@ -29,7 +30,7 @@ impl<'a> Recorder<'a> {
             Ok(Closing::Idle) => "closes",
             Ok(Closing::Withdrawn) => "closes: command withdrawn",
         };
-        self.parties.close(agent, slot);
+        self.parties.set(agent, Event::Closed, Some(slot));
         self.marks.add(Mark::Closed {
             agent,
             slot,

@@ -5,6 +5,7 @@ ghost use Rattle.scmi_chart.specs.Shown.{adds};
 
 use crate::arrows::{Way, posted_arrow};
 use crate::mark::{Mark, Side};
+use crate::parties::Event;
 use crate::recorder::Recorder;
 use crate::sign::posted_mark;
 use scmi_codec::Frame;
@@ -26,7 +27,7 @@ impl<'a> Recorder<'a> {
             Flushed::Waiting => self.remark(agent, slot, Side::Platform, "channel still busy"),
             Flushed::Closed => self.remark(agent, slot, Side::Platform, "channel closed"),
             Flushed::Posted => {
-                self.parties.send(agent, slot);
+                self.parties.set(agent, Event::Posted, Some(slot));
                 self.marks.add(Mark::Posted { slot })
             }
         }
@@ -47,7 +48,7 @@ impl<'a> Recorder<'a> {
             Some(Frame::Good(message)) => {
                 let way = Way {
                     agent,
-                    slot: self.parties.take(agent).unwrap_or(slot),
+                    slot: self.parties.take(agent, Event::Posted).unwrap_or(slot),
                     taken: slot,
                 };
                 let arrow = posted_arrow(self.alloc, self.board, way, message)?;

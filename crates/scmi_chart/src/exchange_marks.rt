@@ -5,6 +5,7 @@ ghost use Rattle.scmi_chart.specs.Service.{if_got, sets_later};
 ghost use Rattle.scmi_chart.specs.Shown.{adds, exchanged, serves, with_later};
 
 use crate::mark::Mark;
+use crate::parties::Event;
 use crate::recorder::Recorder;
 use crate::sign::{has_fault, reply_token};
 use scmi_codec::Fault;
@@ -76,7 +77,7 @@ impl<'a> Recorder<'a> {
             (sent_sign true step.now agent token ∷ executed ∷ []) self.old)) }
     {
         let until = slot.saturating_add(1);
-        self.parties.answer(agent, until);
+        self.parties.set(agent, Event::Answered, Some(until));
         self.marks.serve(agent, slot);
         self.record_post(agent, slot, step, token, true)?;
         self.marks.add(Mark::Execution { slot, until })

@@ -5,6 +5,7 @@ ghost use Rattle.scmi_chart.specs.Service.{if_done};
 ghost use Rattle.scmi_chart.specs.Shown.{serves};
 
 use crate::mark::{Mark, Side};
+use crate::parties::Event;
 use crate::recorder::Recorder;
 use scmi_link::Served;
 use std::alloc::AllocError;
@@ -35,7 +36,7 @@ impl<'a> Recorder<'a> {
     ) -> Result<(), AllocError>
         ensures { OnOk result (self.new ≡ serves (Some agent) (executed ∷ []) self.old) }
     {
-        self.parties.answer(agent, until);
+        self.parties.set(agent, Event::Answered, Some(until));
         self.marks.serve(agent, slot);
         self.marks.add(Mark::Execution { slot, until })
     }

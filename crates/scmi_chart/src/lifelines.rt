@@ -4,7 +4,7 @@ ghost use Rattle.scmi_chart.specs.Signs.{lane};
 ghost use Rattle.scmi_chart.specs.Shown.{head_of, heads_from};
 
 use crate::chart::Lifeline;
-use crate::parties::Parties;
+use crate::parties::{Event, Parties};
 use scmi_plan::RawPlan;
 use std::alloc::{AllocError, Global};
 
@@ -23,7 +23,7 @@ pub(crate) fn lifelines_of(
         lifelines.push(Lifeline {
             agent,
             name: Vec::from_slice(alloc, name.as_bytes())?,
-            closed: parties.closed_at(agent),
+            closed: parties.slot(agent, Event::Closed),
         })?;
     }
     Ok(lifelines)

@@ -2,14 +2,22 @@
 
 use std::alloc::{AllocError, Global};
 
-/// What is under way between one agent and the platform.
+/// What happens to an agent in a slot.
+#[derive(Clone, Copy)]
+pub(crate) enum Event {
+    /// Its command was answered; it has not read that yet.
+    Answered,
+    /// The platform posted a message that it has not taken yet.
+    Posted,
+    /// It closed its channels.
+    Closed,
+}
+
+/// In which slot each of these happened to an agent, if it did.
 #[derive(Clone, Copy)]
 struct Party {
-    // The slot in which the agent's command was answered, if that was not read yet.
     answered: Option<u16>,
-    // The slot in which the platform posted a message that the agent has not taken yet.
     posted: Option<u16>,
-    // The slot in which the agent closed its channels, if it did.
     closed: Option<u16>,
 }
 
@@ -34,45 +42,32 @@ impl Parties {
         Ok(Parties { parties })
     }
 
-    /// The agent's command was answered in this slot.
-    pub fn answer(&mut self, agent: u8, slot: u16) {
-        if let Some(party) = party_of(&mut self.parties, agent) {
-            party.answered = Some(slot);
+    /// An event happened to the agent in this slot, or is over.
+    pub fn set(&mut self, agent: u8, event: Event, slot: Option<u16>) {
+        let place = usize::from(agent).wrapping_sub(1);
+        if place < self.parties.len() {
+            match event {
+                Event::Answered => self.parties[place].answered = slot,
+                Event::Posted => self.parties[place].posted = slot,
+                Event::Closed => self.parties[place].closed = slot,
+            }
         }
     }
 
-    /// The slot in which the command was answered whose answer the agent reads now.
-    pub fn settle(&mut self, agent: u8) -> Option<u16> {
-        party_of(&mut self.parties, agent)?.answered.take()
-    }
-
-    /// A message was posted to the agent in this slot.
-    pub fn send(&mut self, agent: u8, slot: u16) {
-        if let Some(party) = party_of(&mut self.parties, agent) {
-            party.posted = Some(slot);
+    /// The slot in which an event happened to the agent, if it did.
+    pub fn slot(&self, agent: u8, event: Event) -> Option<u16> {
+        let party = self.parties.get(usize::from(agent).wrapping_sub(1))?;
+        match event {
+            Event::Answered => party.answered,
+            Event::Posted => party.posted,
+            Event::Closed => party.closed,
         }
     }
 
-    /// The slot in which the message was posted that the agent takes now.
-    pub fn take(&mut self, agent: u8) -> Option<u16> {
-        party_of(&mut self.parties, agent)?.posted.take()
+    /// The same, of an event that is over now.
+    pub fn take(&mut self, agent: u8, event: Event) -> Option<u16> {
+        let slot = self.slot(agent, event);
+        self.set(agent, event, None);
+        slot
     }
-
-    /// The agent closed its channels in this slot.
-    pub fn close(&mut self, agent: u8, slot: u16) {
-        if let Some(party) = party_of(&mut self.parties, agent) {
-            party.closed = Some(slot);
-        }
-    }
-
-    /// The slot in which the agent closed its channels, if it did.
-    pub fn closed_at(&self, agent: u8) -> Option<u16> {
-        let place = usize::from(agent).checked_sub(1)?;
-        self.parties.get(place)?.closed
-    }
-}
-
-/// What is under way of an agent, if there is one of this number.
-fn party_of(parties: &mut [Party], agent: u8) -> Option<&mut Party> {
-    parties.get_mut(usize::from(agent).checked_sub(1)?)
 }
