@@ -29,7 +29,9 @@ use Rattle.scmi_link.specs.View.{CallerView}
 use Rattle.scmi_link.specs.declared.closing.Closing.{Closing}
 use Rattle.scmi_link.specs.declared.close_error.CloseError.{CloseError}
 use Rattle.scmi_chart.specs.declared.chart.Chart.{Chart}
-use Rattle.scmi_chart.specs.Run.{ShowsRun, may_be_full, shows_close}
+use Rattle.scmi_chart.specs.Run.{ShowsRun}
+use Rattle.scmi_modes.specs.Runs.{may_be_full}
+use Rattle.scmi_modes.specs.Steps.{shows_close}
 use Rattle.scmi_chart.specs.Threads.{HasScripts, ShowsOutcome, ShowsScripts, ShowsThreads}
 use Rattle.scmi_modes.specs.declared.kind.Kind.{Kind}
 use Rattle.scmi_modes.specs.declared.run_error.RunError.{RunError}

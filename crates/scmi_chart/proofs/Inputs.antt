@@ -11,23 +11,24 @@ use Rattle.scmi_text.specs.Step.{IsStepOf}
 use Rattle.scmi_text.specs.declared.step.Step.{Step}
 use Rattle.scmi_io.specs.Lines.{after_line, first_line}
 use Rattle.scmi_io.specs.declared.input.TheConstants.{KEPT_BYTES}
-use Rattle.scmi_chart.specs.AnyMode.{any_line_of}
-use Rattle.scmi_chart.specs.declared.any_mode.AnyMode.{AnyMode}
-use Rattle.scmi_chart.specs.declared.any_mode.AnyMode.TheVariants.{Script, Threads}
+use Rattle.scmi_modes.specs.AnyMode.{any_text_of}
+use Rattle.scmi_modes.specs.declared.any_mode.AnyMode.{AnyMode}
+use Rattle.scmi_modes.specs.declared.any_mode.AnyMode.TheVariants.{Plain, Hardware}
 use Rattle.scmi_modes.specs.declared.kind.Kind.TheVariants.{Rings, Words}
-use Rattle.scmi_chart.specs.declared.mode.Mode.TheVariants.{Steps, Hardware}
+use Rattle.scmi_modes.specs.declared.mode.Mode.TheVariants.{Once, Steps, Threads}
 
 -- the lines of an input that no one has read yet
 pub lines_same : (lines : LinesView) (bytes : List ℕ) → lines.rest ≡ bytes → lines.number ≡ 1 → lines ≡ record { rest = bytes; number = 1 }
 lines_same lines bytes rest first = ap (λ (r : List ℕ). record { rest = r; number = lines.number }) rest ∙ ap (λ (n : ℕ). record { rest = bytes; number = n }) first
 
-short : (m : AnyMode) → length (any_line_of m) < KEPT_BYTES
-short (Script (Steps Rings)) = omega arith
-short (Script (Steps Words)) = omega arith
-short (Script (Hardware Rings)) = omega arith
-short (Script (Hardware Words)) = omega arith
-short (Threads Rings) = omega arith
-short (Threads Words) = omega arith
+short : (m : AnyMode) → length (any_text_of m) < KEPT_BYTES
+short (Plain Once) = omega arith
+short (Plain (Steps Rings)) = omega arith
+short (Plain (Steps Words)) = omega arith
+short (Plain (Threads Rings)) = omega arith
+short (Plain (Threads Words)) = omega arith
+short (Hardware Rings) = omega arith
+short (Hardware Words) = omega arith
 
 -- a line whose first bytes are fewer than were to be kept is no longer
 whole : (line kept : List ℕ) → kept ≡ take KEPT_BYTES line → length kept < KEPT_BYTES → kept ≡ line
@@ -35,13 +36,13 @@ whole line kept is few =
     let all : length line ≤ KEPT_BYTES = omega (arith, few, ap length is ∙ length-take KEPT_BYTES line) in
     is ∙ take_all KEPT_BYTES line all
 
-named : (line kept : List ℕ) (m : AnyMode) → kept ≡ take KEPT_BYTES line → kept ≡ any_line_of m → line ≡ any_line_of m
+named : (line kept : List ℕ) (m : AnyMode) → kept ≡ take KEPT_BYTES line → kept ≡ any_text_of m → line ≡ any_text_of m
 named line kept m is mode =
     let few : length kept < KEPT_BYTES = omega (arith, short m, ap length mode) in
     sym (whole line kept is few) ∙ mode
 
 -- the first line of an input, if it is known, is that of the mode that its first bytes name
-pub named_line : (known : Option (List ℕ)) (kept : List ℕ) (m : AnyMode) → IfSome known (λ input. kept ≡ take KEPT_BYTES (first_line input)) → kept ≡ any_line_of m → IfSome known (λ input. first_line input ≡ any_line_of m)
+pub named_line : (known : Option (List ℕ)) (kept : List ℕ) (m : AnyMode) → IfSome known (λ input. kept ≡ take KEPT_BYTES (first_line input)) → kept ≡ any_text_of m → IfSome known (λ input. first_line input ≡ any_text_of m)
 named_line None kept m is mode = tt
 named_line (Some input) kept m is mode = named (first_line input) kept m is mode
 

@@ -9,7 +9,7 @@ use Rattle.scmi_text.specs.declared.step.Step.{Step}
 use Rattle.scmi_text.specs.declared.step.Step.TheVariants as step
 use Rattle.scmi_text.specs.declared.step.AgentStep.TheVariants as agent_step
 use Rattle.scmi_chart.specs.Words.{hex_text, words_text}
-use Rattle.scmi_chart.specs.declared.detail_texts.TheConstants.{HEADER, LENGTH, WORDS}
+use Rattle.scmi_chart.specs.declared.detail.TheConstants.{HEADER, LENGTH, WORDS}
 use Rattle.scmi_chart.specs.Posted.{message_of, with_token}
 
 -- a header word

@@ -17,7 +17,9 @@ use Rattle.scmi_threads.specs.ScriptLogs.{IsScriptLog}
 use Rattle.scmi_threads.specs.declared.outcome.Outcome.{Outcome}
 use Rattle.scmi_chart.specs.declared.chart.Chart.{Chart}
 use Rattle.scmi_chart.specs.History.{steps_of_run}
-use Rattle.scmi_chart.specs.Run.{ShowsRun, may_be_full, shows_close}
+use Rattle.scmi_chart.specs.Run.{ShowsRun}
+use Rattle.scmi_modes.specs.Runs.{may_be_full}
+use Rattle.scmi_modes.specs.Steps.{shows_close}
 use Rattle.scmi_modes.specs.declared.kind.Kind.{Kind}
 
 -- what follows the first line of an input is this board and these scripts of its agents

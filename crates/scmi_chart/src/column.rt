@@ -1,15 +1,25 @@
 //! The columns of states.
 
 use crate::chart::{Column, Dropped, Kind, Span, State};
-use crate::escape::write_escaped;
 use crate::place::Place;
-use crate::rate::write_rate;
-use crate::shape::{Fit, Point, write_box, write_fitted, write_words};
+use crate::shape::{Fit, NONE, NOTHING, Point, Shape, bar, fitted, words, write_shapes};
+use crate::value::Value;
 use std::io;
 use std::io::Write;
 
 /// The size of the name of a column.
 const NAME: u32 = 12;
+/// An outbox in the colour of its agent, and how many messages wait there.
+const QUEUE: &str = "<rect class=\"a% queue\" x=\"%\" y=\"%\" width=\"%\" height=\"%\"/>\n";
+
+const COUNT: &str = "<text class=\"a% count\" x=\"%\" y=\"%\" dx=\"%\" dy=\"12\">%</text>\n";
+/// Which notifications were dropped, with a cross.
+const DROPPED: &str = "<g class=\"dropped\">\n<title>%</title>\n\
+<path class=\"lost\" d=\"M% %m57 -9l10 10m0 -10l-10 10\"/>\n";
+/// That one was dropped, and how many were.
+const ONE: &str = "<text x=\"%\" y=\"%\" dx=\"72\">dropped</text>\n</g>\n";
+
+const MANY: &str = "<text x=\"%\" y=\"%\" dx=\"72\">% dropped</text>\n</g>\n";
 
 pub(crate) fn write_columns<W: Write>(
     writer: &mut W,
@@ -23,131 +33,108 @@ pub(crate) fn write_columns<W: Write>(
 }
 
 fn write_column<W: Write>(writer: &mut W, place: Place<'_>, column: &Column) -> io::Result<()> {
-    let x = place.column_x(column.place);
-    let kind: &[u8] = match column.kind {
-        Kind::Domain => b"domain",
-        Kind::Clock => b"clock",
-        Kind::Outbox(_) => b"outbox",
-    };
-    let left = x.saturating_sub(6);
-    let fit = Fit {
-        room: place.name_room(column.kind),
-        size: NAME,
-    };
-    write_fitted(
-        writer,
-        "track",
-        Point { x: left, y: 103 },
-        &column.name,
-        fit,
-    )?;
-    write_words(writer, "kind", Point { x: left, y: 119 }, kind)?;
+    write_shapes(writer, &head_of(place, column))?;
     for span in &column.spans {
-        write_span(writer, place, column, span)?;
+        write_shapes(writer, &span_of(place, column, span))?;
     }
     for dropped in &column.drops {
-        write_dropped(
-            writer,
-            Point {
-                x,
-                y: place.state_y(dropped.time),
-            },
-            dropped,
-        )?;
+        write_shapes(writer, &dropped_of(place, column, dropped))?;
     }
     Ok(())
 }
 
-/// Writes a state along the time that it lasted.
-fn write_span<W: Write>(
-    writer: &mut W,
-    place: Place<'_>,
-    column: &Column,
-    span: &Span,
-) -> io::Result<()> {
-    let x = place.column_x(column.place);
-    let y = place.state_y(span.since);
-    let height = place.state_y(span.until).saturating_sub(y);
-    let words = Point {
-        x: x + 10,
-        y: y + 12,
+/// The name of a column, and its kind.
+fn head_of<'a>(place: Place<'_>, column: &'a Column) -> [Shape<'a>; 2] {
+    let x = place.column_x(column.place).saturating_sub(6);
+    let kind = match column.kind {
+        Kind::Domain => "domain",
+        Kind::Clock => "clock",
+        Kind::Outbox(_) => "outbox",
     };
+    let fit = Fit {
+        room: place.name_room(column.kind),
+        size: NAME,
+    };
+    let kind = Value::Words(kind.as_bytes());
+    [
+        fitted("track", Point { x, y: 103 }, &column.name, fit),
+        words("kind", Point { x, y: 119 }, kind),
+    ]
+}
+
+/// A state along the time that it lasted.
+fn span_of(place: Place<'_>, column: &Column, span: &Span) -> [Shape<'static>; 2] {
+    let at = Point {
+        x: place.column_x(column.place),
+        y: place.state_y(span.since),
+    };
+    let height = place.state_y(span.until).saturating_sub(at.y);
+    let beside = at.behind(10, 12);
     match span.state {
-        State::On => {
-            write_box(writer, "on", left_of(x, y, 5), 10, height)?;
-            write_words(writer, "on value", words, b"ON")
-        }
-        State::Off => {
-            write_box(writer, "off", left_of(x, y, 1), 2, height)?;
-            write_words(writer, "value", words, b"OFF")
-        }
-        State::Pending => write_box(writer, "held", left_of(x, y, 13), 6, height),
-        State::Waiting(0) => write_box(writer, "none", left_of(x, y, 1), 2, height),
-        State::Waiting(count) => write_waiting(
-            writer,
-            left_of(x, y, 1),
-            height,
-            column.kind,
-            count,
-        ),
-        State::Rate { hertz, is_enabled } => {
-            let class = if is_enabled { "rate" } else { "rate idle" };
-            write_box(writer, class, left_of(x, y, 4), 8, height)?;
-            write_hertz(writer, words, hertz)
-        }
+        State::On => [
+            bar("on", at.before(5, 0), 10, height),
+            words("on value", beside, Value::Words(b"ON")),
+        ],
+        State::Off => [
+            bar("off", at.before(1, 0), 2, height),
+            words("value", beside, Value::Words(b"OFF")),
+        ],
+        State::Pending => [bar("held", at.before(13, 0), 6, height), NOTHING],
+        State::Waiting(0) => [bar("none", at.before(1, 0), 2, height), NOTHING],
+        State::Waiting(count) => waiting(at.before(1, 0), height, column.kind, count),
+        State::Rate { hertz, is_enabled } => [
+            bar(
+                if is_enabled { "rate" } else { "rate idle" },
+                at.before(4, 0),
+                8,
+                height,
+            ),
+            words("hertz", beside, Value::Rate(hertz)),
+        ],
     }
 }
 
-/// The corner of a bar that begins this far to the left of a point.
-fn left_of(x: u32, y: u32, distance: u32) -> Point {
-    Point {
-        x: x.saturating_sub(distance),
-        y,
-    }
-}
-
-/// Writes an outbox, as wide as it is long, in the colour of its agent.
-fn write_waiting<W: Write>(
-    writer: &mut W,
-    corner: Point,
-    height: u32,
-    kind: Kind,
-    count: u8,
-) -> io::Result<()> {
+/// An outbox, as wide as it is long, in the colour of its agent.
+fn waiting(corner: Point, height: u32, kind: Kind, count: u8) -> [Shape<'static>; 2] {
     let agent = match kind {
-        Kind::Outbox(agent) => agent,
-        Kind::Domain | Kind::Clock => 0,
+        Kind::Outbox(agent) => Value::Number(u32::from(agent)),
+        Kind::Domain | Kind::Clock => Value::Number(0),
     };
+    let (x, y) = (Value::Number(corner.x), Value::Number(corner.y));
     let width = 2 + 3 * u32::from(count);
-    let (x, y) = (corner.x, corner.y);
-    let right = width + 7;
-    write!(
-        writer,
-        "<rect class=\"a{agent} queue\" x=\"{x}\" y=\"{y}\" width=\"{width}\" height=\"{height}\"/>\n<text class=\"a{agent} count\" x=\"{x}\" y=\"{y}\" dx=\"{right}\" dy=\"12\">{count}</text>\n"
-    )
+    let right = Value::Number(width + 7);
+    let (width, height) = (Value::Number(width), Value::Number(height));
+    let count = Value::Number(u32::from(count));
+    [
+        Shape {
+            text: QUEUE,
+            values: [agent, x, y, width, height, NONE],
+        },
+        Shape {
+            text: COUNT,
+            values: [agent, x, y, right, count, NONE],
+        },
+    ]
 }
 
-/// Writes a rate beside a point.
-fn write_hertz<W: Write>(writer: &mut W, at: Point, hertz: u64) -> io::Result<()> {
-    let (x, y) = (at.x, at.y);
-    write!(writer, "<text class=\"hertz\" x=\"{x}\" y=\"{y}\">")?;
-    write_rate(writer, hertz)?;
-    writer.write_all(b"</text>\n")
-}
-
-/// Writes notifications that were dropped at one time, beside the widest bar: a cross, how many they
-/// are, and for a reader who points at it which.
-fn write_dropped<W: Write>(writer: &mut W, at: Point, dropped: &Dropped) -> io::Result<()> {
-    let (x, y) = (at.x, at.y);
-    writer.write_all(b"<g class=\"dropped\">\n<title>")?;
-    write_escaped(writer, &dropped.detail)?;
-    write!(
-        writer,
-        "</title>\n<path class=\"lost\" d=\"M{x} {y}m57 -9l10 10m0 -10l-10 10\"/>\n<text x=\"{x}\" y=\"{y}\" dx=\"72\">"
-    )?;
-    if dropped.count != 1 {
-        let count = dropped.count;
-        write!(writer, "{count} ")?;
-    }
-    writer.write_all(b"dropped</text>\n</g>\n")
+/// Notifications that were dropped at one time, beside the widest bar: a cross, how many they are,
+/// and for a reader who points at it which.
+fn dropped_of<'a>(place: Place<'_>, column: &Column, dropped: &'a Dropped) -> [Shape<'a>; 2] {
+    let x = Value::Number(place.column_x(column.place));
+    let y = Value::Number(place.state_y(dropped.time));
+    let (text, count) = if dropped.count == 1 {
+        (ONE, NONE)
+    } else {
+        (MANY, Value::Number(u32::from(dropped.count)))
+    };
+    [
+        Shape {
+            text: DROPPED,
+            values: [Value::Outside(&dropped.detail), x, y, NONE, NONE, NONE],
+        },
+        Shape {
+            text,
+            values: [x, y, count, NONE, NONE, NONE],
+        },
+    ]
 }

@@ -3,13 +3,20 @@ ghost use Rattle.std.specs.Prelude.{◌≡◌, ◌++◌, IfOk, OnOk};
 ghost use Rattle.scmi_chart.specs.Detail.{answer_detail, header_detail, malformed_detail, message_detail, step_detail, words_detail};
 ghost use Rattle.scmi_chart.specs.Posted.{with_token};
 
-use crate::detail_texts::{HEADER, LENGTH, WORDS};
 use crate::posts::message_of;
 use crate::value::{Value, filled_words};
 use crate::words::all_words;
 use scmi_codec::{Answer, Header, Message, TOKENS};
 use scmi_text::{AgentStep, Step};
 use std::alloc::{AllocError, Global};
+
+/// The texts, of which each `%` is a value: a header, and behind it payload words or the length of a
+/// malformed frame.
+const HEADER: &str = "header %";
+
+const WORDS: &str = ", words %";
+
+const LENGTH: &str = ", length %";
 
 /// The header and words of a message.
 pub(crate) fn message_detail(alloc: Global, message: &Message) -> Result<Vec<u8>, AllocError>

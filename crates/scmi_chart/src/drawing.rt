@@ -1,27 +1,35 @@
 //! A run from its input to its exit status.
-ghost use Rattle.std.specs.Prelude.{◌≡◌, ◌≢◌, ◌≤◌, ◌+◌, ◌*◌, IfErr, IfOk, OnOk};
+ghost use Rattle.std.specs.Prelude.{◌≡◌, ◌≢◌, ◌≤◌, ◌+◌, ◌*◌, IfErr, IfOk, IfSome, OnOk};
 ghost use Rattle.scmi_io.specs.declared.input.TheConstants.{INPUT_BYTES};
+ghost use Rattle.scmi_modes.specs.AnyMode.{any_text_of};
 ghost use Rattle.scmi_modes.specs.Reads.{StopsAtFailure};
 ghost use Rattle.std.specs.Io.KnownBytes.{Appends};
 ghost use Rattle.scmi_chart.specs.Diagram.{diagram_text};
-ghost use Rattle.scmi_chart.specs.declared.form.Form.TheVariants as Form;
+ghost use Rattle.scmi_chart.specs.declared.drawing.Form.TheVariants as Form;
 ghost use Rattle.scmi_chart.specs.Picture.{IsChartOf, IsDiagram, ShowsInput};
 
-use crate::any_mode::AnyMode;
 use crate::chart::Chart;
 use crate::diagram::write_diagram;
-use crate::form::Form;
 use crate::picture::write_chart;
 use crate::run::chart_of;
 use crate::threads::chart_of_threads;
 use scmi_io::{CountedRead, CountedReader, Input, read_rest, write_fault};
-use scmi_modes::RunError;
+use scmi_modes::{AnyMode, Mode, Modes, RunError, ScriptKind};
 use scmi_threads::Gate;
 use std::alloc::Global;
 use std::io;
 use std::io::{Read, Write};
 use std::sync::Wait;
 use std::thread::Threads;
+
+/// In which form a chart is written.
+#[derive(Clone, Copy)]
+pub enum Form {
+    /// A picture, which browsers show.
+    Svg,
+    /// A diagram in the text of Mermaid, which GitHub and most editors draw.
+    Mermaid,
+}
 
 /// Draws the run of an input in a form and gives the exit status: 0, or that of the error, whose text
 /// is written as the last line. A fault that can't be written gives status 1.
@@ -117,10 +125,20 @@ pub fn read_chart<T: Threads + Wait + Sync, G: Gate, R: CountedRead + Drop>(
     ensures stops { StopsAtFailure result input.old.since_failure input.new.since_failure }
 {
     let line = input.read_first_line()?;
-    let mode = AnyMode::of_first_line(&line).ok_or(RunError::Mode)?;
+    let mode = drawn_mode(&line).ok_or(RunError::Mode)?;
     let bytes = read_rest(alloc, input)?;
     let chart = chart_in(rt, alloc, gate, mode, &bytes, written)?;
     Ok(chart)
+}
+
+/// The mode that a first line names, exactly, if its runs are drawn.
+fn drawn_mode(line: &[u8]) -> Option<AnyMode>
+    ensures { IfSome result (λ mode. line.now ≡ any_text_of mode) }
+{
+    match Modes::ForPeople.of_line(line)? {
+        AnyMode::Plain(Mode::Once) => None,
+        mode => Some(mode),
+    }
 }
 
 /// The chart of the run of what follows the first line of an input in this mode.
@@ -135,7 +153,11 @@ fn chart_in<T: Threads + Wait + Sync, G: Gate>(
     ensures shown { IfOk result (ShowsInput mode bytes.now) }
 {
     match mode {
-        AnyMode::Script(mode) => chart_of(alloc, mode, bytes, written),
-        AnyMode::Threads(kind) => chart_of_threads(rt, alloc, gate, kind, bytes),
+        AnyMode::Plain(Mode::Once) => Err(RunError::Mode),
+        AnyMode::Plain(Mode::Steps(kind)) => {
+            chart_of(alloc, ScriptKind::Plain, kind, bytes, written)
+        }
+        AnyMode::Plain(Mode::Threads(kind)) => chart_of_threads(rt, alloc, gate, kind, bytes),
+        AnyMode::Hardware(kind) => chart_of(alloc, ScriptKind::Hardware, kind, bytes, written),
     }
 }

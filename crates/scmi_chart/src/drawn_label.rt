@@ -1,9 +1,9 @@
 //! The words of a message, above its line: in one row if there is room, else in two.
 
-use crate::escape::write_escaped;
 use crate::mark::Label;
 use crate::measure::{pixels, size_in, width_of};
-use crate::shape::Point;
+use crate::shape::{NONE, NOTHING, Point, Shape, write_shapes};
+use crate::value::Value;
 use std::io;
 use std::io::Write;
 
@@ -16,11 +16,15 @@ const TWO_ROWS: u32 = 10;
 
 const ROW: u32 = 11;
 
-/// A part of a label: what is before its letters, how wide that is in hundredths of the font's size,
-/// and its letters.
+const BEGIN: &str = "<text x=\"%\" y=\"%\" font-size=\"%\">";
+
+const END: &str = "</text>\n";
+
+/// A part of a label: how its letters are written, how wide that is before them in hundredths of the
+/// font's size, and its letters.
 #[derive(Clone, Copy)]
 struct Part<'a> {
-    opening: &'static str,
+    form: &'static str,
     before: u32,
     text: &'a [u8],
 }
@@ -36,22 +40,22 @@ struct Rows {
 fn parts_of(label: &Label) -> [Part<'_>; 4] {
     [
         Part {
-            opening: "<tspan class=\"name\">",
+            form: "<tspan class=\"name\">%</tspan>",
             before: 0,
             text: &label.name,
         },
         Part {
-            opening: "<tspan class=\"object\" dx=\"6\">",
+            form: "<tspan class=\"object\" dx=\"6\">%</tspan>",
             before: 50,
             text: &label.object,
         },
         Part {
-            opening: "<tspan class=\"object\" dx=\"4\">&#8594; ",
+            form: "<tspan class=\"object\" dx=\"4\">&#8594; %</tspan>",
             before: 190,
             text: &label.value,
         },
         Part {
-            opening: "<tspan class=\"tag\" dx=\"6\">",
+            form: "<tspan class=\"tag\" dx=\"6\">%</tspan>",
             before: 50,
             text: &label.tag,
         },
@@ -113,31 +117,32 @@ pub(crate) fn write_label<W: Write>(
     }
     let size = size_in(rows.width, room, TWO_ROWS);
     let (above, below) = parts.split_at(rows.second.min(parts.len()));
-    let y = at.y.saturating_add(1);
-    let upper = Point {
-        x: at.x,
-        y: y.saturating_sub(ROW),
-    };
-    write_row(writer, above, upper, size)?;
-    write_row(writer, below, Point { x: at.x, y }, size)
+    let lower = at.behind(0, 1);
+    write_row(writer, above, lower.before(0, ROW), size)?;
+    write_row(writer, below, lower, size)
 }
 
 /// Writes parts of a label side by side around a point.
 fn write_row<W: Write>(writer: &mut W, parts: &[Part<'_>], at: Point, size: u32) -> io::Result<()> {
-    let (x, y) = (at.x, at.y);
-    write!(writer, "<text x=\"{x}\" y=\"{y}\" font-size=\"{size}\">")?;
+    let (x, y) = (Value::Number(at.x), Value::Number(at.y));
+    let begin = Shape {
+        text: BEGIN,
+        values: [x, y, Value::Number(size), NONE, NONE, NONE],
+    };
+    write_shapes(writer, &[begin])?;
     for part in parts {
-        write_part(writer, part)?;
+        write_shapes(writer, &[shape_of(part)])?;
     }
-    writer.write_all(b"</text>\n")
+    writer.write_all(END.as_bytes())
 }
 
-/// Writes a part of a label, if it has any letters.
-fn write_part<W: Write>(writer: &mut W, part: &Part<'_>) -> io::Result<()> {
+/// A part of a label, if it has any letters.
+fn shape_of<'a>(part: &Part<'a>) -> Shape<'a> {
     if part.text.is_empty() {
-        return Ok(());
+        return NOTHING;
     }
-    writer.write_all(part.opening.as_bytes())?;
-    write_escaped(writer, part.text)?;
-    writer.write_all(b"</tspan>")
+    Shape {
+        text: part.form,
+        values: [Value::Outside(part.text), NONE, NONE, NONE, NONE, NONE],
+    }
 }

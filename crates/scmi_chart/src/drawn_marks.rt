@@ -1,15 +1,20 @@
 //! Marks, as they are drawn.
 
-use crate::escape::write_escaped;
-use crate::event::{
-    write_advance, write_closed, write_execution, write_fault, write_post, write_remark,
-    write_restart,
-};
+use crate::drawn_label::write_label;
+use crate::event::{close, execution, fault, pill, post, remark, restart};
 use crate::mark::{Mark, Outcome};
-use crate::message::{write_answer, write_command, write_refused, write_withdrawn};
+use crate::message::{token_of, way_of};
 use crate::place::Place;
+use crate::shape::{NONE, Point, Shape, write_shapes};
+use crate::value::Value;
 use std::io;
 use std::io::Write;
+
+const BEGIN: &str = "<g class=\"mark %\">\n";
+/// What is shown when a reader points at a mark.
+const DETAIL: &str = "<title>%</title>\n";
+
+const END: &str = "</g>\n";
 
 /// Writes a mark, as one group of its class.
 pub(crate) fn write_mark<W: Write>(
@@ -17,11 +22,36 @@ pub(crate) fn write_mark<W: Write>(
     place: Place<'_>,
     mark: &Mark,
 ) -> io::Result<()> {
-    let class = class_of(mark);
-    write!(writer, "<g class=\"mark {class}\">\n")?;
-    write_detail(writer, mark)?;
-    write_shapes(writer, place, mark)?;
-    writer.write_all(b"</g>\n")
+    write_shapes(writer, &head_of(mark))?;
+    write_sign(writer, place, mark)?;
+    if let Some(message) = mark.message() {
+        let at = Point {
+            x: place.words_x(message.agent),
+            y: place.line_y(message.slot).saturating_sub(6),
+        };
+        write_label(writer, &message.label, at, place.room())?;
+    }
+    write_shapes(writer, &token_of(place, mark))?;
+    writer.write_all(END.as_bytes())
+}
+
+/// The beginning of a mark, and the header and words of its message.
+fn head_of(mark: &Mark) -> [Shape<'_>; 2] {
+    let class = Value::Words(class_of(mark).as_bytes());
+    let (text, detail) = match mark.message() {
+        Some(message) if !message.detail.is_empty() => (DETAIL, Value::Outside(&message.detail)),
+        _ => ("", NONE),
+    };
+    [
+        Shape {
+            text: BEGIN,
+            values: [class, NONE, NONE, NONE, NONE, NONE],
+        },
+        Shape {
+            text,
+            values: [detail, NONE, NONE, NONE, NONE, NONE],
+        },
+    ]
 }
 
 /// The classes of a mark.
@@ -52,53 +82,32 @@ pub(crate) fn class_of(mark: &Mark) -> &'static str {
     }
 }
 
-/// Writes what is shown when a reader points at a mark: the header and words of its message.
-fn write_detail<W: Write>(writer: &mut W, mark: &Mark) -> io::Result<()> {
+/// Writes what is drawn of a mark, but for words and token of its message.
+fn write_sign<W: Write>(writer: &mut W, place: Place<'_>, mark: &Mark) -> io::Result<()> {
     match mark {
-        Mark::Command { message, .. }
-        | Mark::Withdrawn { message, .. }
-        | Mark::Refused { message }
-        | Mark::Reply { message, .. }
-        | Mark::Delayed { message, .. }
-        | Mark::Notification { message }
-            if !message.detail.is_empty() => {
-            writer.write_all(b"<title>")?;
-            write_escaped(writer, &message.detail)?;
-            writer.write_all(b"</title>\n")
-        }
-        _ => Ok(()),
-    }
-}
-
-fn write_shapes<W: Write>(writer: &mut W, place: Place<'_>, mark: &Mark) -> io::Result<()> {
-    match mark {
-        Mark::Command { message, token } => write_command(writer, place, message, *token),
-        Mark::Withdrawn { message, token } => write_withdrawn(writer, place, message, *token),
-        Mark::Refused { message } => write_refused(writer, place, message),
-        Mark::Execution { slot, until } => write_execution(writer, place, *slot, *until),
-        Mark::Reply { message, .. } | Mark::Notification { message } => {
-            write_answer(writer, place, message, None)
-        }
-        Mark::Delayed { message, token } => write_answer(writer, place, message, Some(*token)),
-        Mark::Posted { slot } => write_post(writer, place, *slot),
+        Mark::Execution { slot, until } => write_shapes(writer, &[execution(place, *slot, *until)]),
+        Mark::Posted { slot } => write_shapes(writer, &[post(place, *slot)]),
         Mark::Advance { slot, text, .. } | Mark::Failed { slot, text } => {
-            write_advance(writer, place, *slot, text)
+            write_shapes(writer, &pill(place, *slot, "advance", text))
         }
         Mark::Closed {
             agent,
             slot,
             by,
             text,
-        } => write_closed(writer, place, *agent, *slot, *by, text),
+        } => write_shapes(writer, &close(place, *agent, *slot, *by, text)),
         Mark::Remark {
             agent,
             slot,
             beside,
             text,
-        } => write_remark(writer, place, *agent, *slot, *beside, text),
-        Mark::Fault { agent, slot, text } => write_fault(writer, place, *agent, *slot, text),
-        Mark::Restarted { agent, slot, text } => {
-            write_restart(writer, place, *agent, *slot, text)
+        } => write_shapes(writer, &remark(place, *agent, *slot, *beside, text)),
+        Mark::Fault { agent, slot, text } => {
+            write_shapes(writer, &fault(place, *agent, *slot, text))
         }
+        Mark::Restarted { agent, slot, text } => {
+            write_shapes(writer, &restart(place, *agent, *slot, text))
+        }
+        _ => write_shapes(writer, &way_of(place, mark)),
     }
 }

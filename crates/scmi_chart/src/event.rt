@@ -1,129 +1,56 @@
 //! What is no message: executions, advances, restarts, closes, faults, and other words beside a
 //! lifeline.
 
-use crate::escape::write_escaped;
 use crate::mark::Side;
 use crate::measure::width_in;
 use crate::place::Place;
-use crate::shape::{Fit, Point, write_box, write_cross, write_fitted, write_line, write_ring};
-use std::io;
-use std::io::Write;
+use crate::shape::{Fit, NONE, NOTHING, Point, Shape, bar, cross, fitted, line, ring};
+use crate::value::Value;
 
-/// Writes how long the platform executes.
-pub(crate) fn write_execution<W: Write>(
-    writer: &mut W,
-    place: Place<'_>,
-    slot: u16,
-    until: u16,
-) -> io::Result<()> {
-    let corner = Point {
-        x: place.platform_x().saturating_sub(4),
-        y: place.line_y(slot) - 4,
-    };
-    let height = place.line_y(until).saturating_sub(place.line_y(slot)) + 8;
-    write_box(writer, "run", corner, 8, height)
+/// A word on the platform's lifeline, and what it is about.
+const PILL: &str = "<text class=\"sign\" x=\"%\" y=\"%\"><tspan class=\"name\">%</tspan>\
+<tspan class=\"object\" dx=\"6\">%</tspan></text>\n";
+
+/// How long the platform executes.
+pub(crate) fn execution(place: Place<'_>, slot: u16, until: u16) -> Shape<'static> {
+    let corner = place.at_platform(slot).before(4, 4);
+    let height = place.line_y(until).saturating_sub(place.line_y(slot));
+    bar("run", corner, 8, height.saturating_add(8))
 }
 
-/// Writes a ring where the platform posts a message.
-pub(crate) fn write_post<W: Write>(writer: &mut W, place: Place<'_>, slot: u16) -> io::Result<()> {
-    let center = Point {
-        x: place.platform_x(),
-        y: place.line_y(slot),
-    };
-    write_ring(writer, "post", center, 4)
+/// A ring where the platform posts a message.
+pub(crate) fn post(place: Place<'_>, slot: u16) -> Shape<'static> {
+    ring("post", place.at_platform(slot), 4)
 }
 
-/// Writes an advance, as a pill on the platform's lifeline.
-pub(crate) fn write_advance<W: Write>(
-    writer: &mut W,
-    place: Place<'_>,
-    slot: u16,
-    text: &[u8],
-) -> io::Result<()> {
-    write_pill(writer, place, slot, "advance", text)
-}
-
-/// Writes the restart of an agent: a bar across its lifeline, and a pill on the platform's.
-pub(crate) fn write_restart<W: Write>(
-    writer: &mut W,
+/// The restart of an agent: a bar across its lifeline, and a pill on the platform's.
+pub(crate) fn restart<'a>(
     place: Place<'_>,
     agent: u8,
     slot: u16,
-    text: &[u8],
-) -> io::Result<()> {
-    let corner = Point {
-        x: place.agent_x(agent).saturating_sub(9),
-        y: place.line_y(slot) - 6,
-    };
-    write_box(writer, "again", corner, 18, 5)?;
-    write_pill(writer, place, slot, "restart", text)
+    text: &'a [u8],
+) -> [Shape<'a>; 3] {
+    let corner = place.at_agent(agent, slot).before(9, 6);
+    let [pill, words] = pill(place, slot, "restart", text);
+    [bar("again", corner, 18, 5), pill, words]
 }
 
-/// Writes a pill on the platform's lifeline, with a word and what it is about.
-fn write_pill<W: Write>(
-    writer: &mut W,
+/// A pill on the platform's lifeline, with a word and what it is about.
+pub(crate) fn pill<'a>(
     place: Place<'_>,
     slot: u16,
-    word: &str,
-    text: &[u8],
-) -> io::Result<()> {
-    let width = 76 + width_in(text, 11);
-    let (x, y) = (place.platform_x(), place.line_y(slot));
-    let corner = Point {
-        x: x.saturating_sub(width / 2),
-        y: y - 16,
+    word: &'static str,
+    text: &'a [u8],
+) -> [Shape<'a>; 2] {
+    let width = width_in(text, 11).saturating_add(76);
+    let at = place.at_platform(slot);
+    let (x, y) = (Value::Number(at.x), Value::Number(at.y));
+    let word = Value::Words(word.as_bytes());
+    let words = Shape {
+        text: PILL,
+        values: [x, y, word, Value::Outside(text), NONE, NONE],
     };
-    write_box(writer, "pill", corner, width, 23)?;
-    write!(
-        writer,
-        "<text class=\"sign\" x=\"{x}\" y=\"{y}\"><tspan class=\"name\">{word}</tspan><tspan class=\"object\" dx=\"6\">"
-    )?;
-    write_escaped(writer, text)?;
-    writer.write_all(b"</tspan></text>\n")
-}
-
-/// Writes a close, on the lifeline of the endpoint that closes.
-pub(crate) fn write_closed<W: Write>(
-    writer: &mut W,
-    place: Place<'_>,
-    agent: u8,
-    slot: u16,
-    by: Side,
-    text: &[u8],
-) -> io::Result<()> {
-    let x = match by {
-        Side::Agent => place.agent_x(agent),
-        Side::Platform => place.platform_x(),
-    };
-    let y = place.line_y(slot) - 4;
-    write_cross(writer, "shut", Point { x, y })?;
-    let note = Note {
-        agent,
-        slot,
-        beside: by,
-        text,
-        size: 11,
-    };
-    write_note(writer, place, note)
-}
-
-/// Writes words beside a lifeline.
-pub(crate) fn write_remark<W: Write>(
-    writer: &mut W,
-    place: Place<'_>,
-    agent: u8,
-    slot: u16,
-    beside: Side,
-    text: &[u8],
-) -> io::Result<()> {
-    let note = Note {
-        agent,
-        slot,
-        beside,
-        text,
-        size: 10,
-    };
-    write_note(writer, place, note)
+    [bar("pill", at.before(width / 2, 16), width, 23), words]
 }
 
 /// Words beside a lifeline, and the greatest size of their font.
@@ -136,54 +63,92 @@ struct Note<'a> {
     size: u32,
 }
 
-/// Writes words beside a lifeline, towards the other one. Those of an agent that is not beside the
-/// platform have a line to it, since they are where all words of its side are.
-fn write_note<W: Write>(writer: &mut W, place: Place<'_>, note: Note<'_>) -> io::Result<()> {
-    let (agent, y) = (note.agent, place.line_y(note.slot));
-    let (x, is_from_left) = match note.beside {
-        Side::Agent => (place.inner_x(agent, 30), place.is_left(agent)),
-        Side::Platform => (place.beside_platform(agent, 52), !place.is_left(agent)),
+/// A close, on the lifeline of the endpoint that closes.
+pub(crate) fn close<'a>(
+    place: Place<'_>,
+    agent: u8,
+    slot: u16,
+    by: Side,
+    text: &'a [u8],
+) -> [Shape<'a>; 3] {
+    let at = match by {
+        Side::Agent => place.at_agent(agent, slot),
+        Side::Platform => place.at_platform(slot),
     };
-    if let Side::Agent = note.beside {
-        let from = Point {
-            x: place.beside_agent(agent, 12),
-            y: y - 4,
-        };
-        let to = Point {
-            x: place.inner_x(agent, 24),
-            y: y - 4,
-        };
-        write_line(writer, "lead", from, to)?;
-    }
-    let class = if is_from_left { "note" } else { "note end" };
+    let note = Note {
+        agent,
+        slot,
+        beside: by,
+        text,
+        size: 11,
+    };
+    let [lead, words] = shapes_of(place, note);
+    [cross("shut", at.before(0, 4)), lead, words]
+}
+
+/// Words beside a lifeline.
+pub(crate) fn remark<'a>(
+    place: Place<'_>,
+    agent: u8,
+    slot: u16,
+    beside: Side,
+    text: &'a [u8],
+) -> [Shape<'a>; 2] {
+    let note = Note {
+        agent,
+        slot,
+        beside,
+        text,
+        size: 10,
+    };
+    shapes_of(place, note)
+}
+
+/// Words beside a lifeline, towards the other one. Those of an agent that is not beside the
+/// platform have a line to it, since they are where all words of its side are.
+fn shapes_of<'a>(place: Place<'_>, note: Note<'a>) -> [Shape<'a>; 2] {
+    let (agent, y) = (note.agent, place.line_y(note.slot));
+    let is_left = place.is_left(agent);
+    let up = y.saturating_sub(4);
+    let from = Point {
+        x: place.beside_agent(agent, 12),
+        y: up,
+    };
+    let to = Point {
+        x: place.inner_x(agent, 24),
+        y: up,
+    };
+    let (lead, x, is_from_left) = match note.beside {
+        Side::Agent => (line("lead", from, to), place.inner_x(agent, 30), is_left),
+        Side::Platform => (NOTHING, place.beside_platform(agent, 52), !is_left),
+    };
     let fit = Fit {
         room: place.room(),
         size: note.size,
     };
-    write_fitted(writer, class, Point { x, y }, note.text, fit)
+    let class = class_from(is_from_left);
+    [lead, fitted(class, Point { x, y }, note.text, fit)]
 }
 
-/// Writes that the hardware refused what an agent's command was to change, beside the platform's
-/// lifeline and away from the agent's, where the command has no arrow.
-pub(crate) fn write_fault<W: Write>(
-    writer: &mut W,
-    place: Place<'_>,
-    agent: u8,
-    slot: u16,
-    text: &[u8],
-) -> io::Result<()> {
-    let (x, y) = (place.platform_x(), place.line_y(slot));
+/// The class of words that begin at their place, or end there.
+fn class_from(is_from_left: bool) -> &'static str {
+    if is_from_left { "note" } else { "note end" }
+}
+
+/// That the hardware refused what an agent's command was to change, beside the platform's lifeline
+/// and away from the agent's, where the command has no arrow.
+pub(crate) fn fault<'a>(place: Place<'_>, agent: u8, slot: u16, text: &'a [u8]) -> [Shape<'a>; 2] {
+    let at = place.at_platform(slot);
     let is_left = place.is_left(agent);
-    let (cross, words) = if is_left {
-        (x + 52, x + 66)
+    let (sign, words) = if is_left {
+        (at.behind(52, 0), at.behind(66, 0))
     } else {
-        (x.saturating_sub(52), x.saturating_sub(66))
+        (at.before(52, 0), at.before(66, 0))
     };
-    write_cross(writer, "lost", Point { x: cross, y: y - 4 })?;
-    let class = if is_left { "note" } else { "note end" };
     let fit = Fit {
         room: place.room().saturating_sub(14),
         size: 10,
     };
-    write_fitted(writer, class, Point { x: words, y }, text, fit)
+    let words = fitted(class_from(is_left), words, text, fit);
+    [cross("lost", sign.before(0, 4)), words]
 }

@@ -3,6 +3,9 @@
 /// What is before the digits of a hexadecimal number.
 pub(crate) const HEX: &str = "0x";
 
+/// A value alone.
+pub(crate) const VALUE: &str = "%";
+
 /// What is between words of a payload.
 pub(crate) const SPACE: u8 = b' ';
 

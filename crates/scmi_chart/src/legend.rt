@@ -1,10 +1,11 @@
 //! What the lines and signs of a chart mean, as far as it has them.
 
-ghost use Rattle.std.specs.Prelude.{◌<◌, ◌^◌};
-
 use crate::chart::{Chart, Column, Span, State};
 use crate::drawn_marks::class_of;
 use crate::mark::Mark;
+use crate::shape::{Shape, write_shapes};
+use crate::value::Value;
+use scmi_io::write_filled;
 use std::io;
 use std::io::Write;
 
@@ -33,6 +34,11 @@ struct Entry {
 
 /// The height of a row.
 const ROW: u32 = 26;
+
+const BEGIN: &str = "<svg class=\"legend\" x=\"24\" y=\"%\">\n";
+
+const ENTRY: &str =
+    "<svg class=\"mark %\" x=\"%\" y=\"%\">%<text x=\"%\" y=\"16\">%</text></svg>\n";
 
 const ARROW: &str = "<line class=\"head\" x1=\"0\" y1=\"12\" x2=\"26\" y2=\"12\"/>";
 
@@ -116,32 +122,36 @@ pub(crate) fn write_legend<W: Write>(
     y: u32,
     width: u32,
 ) -> io::Result<()> {
-    write!(writer, "<svg class=\"legend\" x=\"24\" y=\"{y}\">\n")?;
+    write_filled(writer, BEGIN, &[Value::Number(y)])?;
     let mut spot = Spot { x: 0, row: 0 };
     for entry in &ENTRIES {
         if is_used(chart, entry.place) {
             spot = spot.for_entry(entry, width);
-            write_entry(writer, spot, entry)?;
+            write_shapes(writer, &[shape_of(spot, entry)])?;
             spot = spot.behind(entry);
         }
     }
     writer.write_all(b"</svg>\n")
 }
 
-fn write_entry<W: Write>(writer: &mut W, spot: Spot, entry: &Entry) -> io::Result<()> {
-    let (x, y) = (spot.x, spot.row.saturating_mul(ROW));
-    let (class, sign) = (entry.class, entry.sign);
-    let (words_x, words) = (entry.x, entry.words);
-    write!(
-        writer,
-        "<svg class=\"mark {class}\" x=\"{x}\" y=\"{y}\">{sign}<text x=\"{words_x}\" y=\"16\">{words}</text></svg>\n"
-    )
+fn shape_of(spot: Spot, entry: &Entry) -> Shape<'static> {
+    let (class, sign) = (
+        Value::Words(entry.class.as_bytes()),
+        Value::Words(entry.sign.as_bytes()),
+    );
+    let (x, y) = (
+        Value::Number(spot.x),
+        Value::Number(spot.row.saturating_mul(ROW)),
+    );
+    let (words_x, words) = (Value::Number(entry.x), Value::Words(entry.words.as_bytes()));
+    Shape {
+        text: ENTRY,
+        values: [class, x, y, sign, words_x, words],
+    }
 }
 
 /// The height of a chart's legend in rows of this width.
-pub(crate) fn legend_height(chart: &Chart, width: u32) -> u32
-    ensures bound { result < 2 ^ 16 }
-{
+pub(crate) fn legend_height(chart: &Chart, width: u32) -> u32 {
     let mut spot = Spot { x: 0, row: 0 };
     for entry in &ENTRIES {
         if is_used(chart, entry.place) {

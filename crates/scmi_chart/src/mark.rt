@@ -116,3 +116,18 @@ pub enum Mark {
         text: Vec<u8>,
     },
 }
+
+impl Mark {
+    /// The message that it shows, if it does.
+    pub(crate) fn message(&self) -> Option<&Message> {
+        match self {
+            Mark::Command { message, .. }
+            | Mark::Withdrawn { message, .. }
+            | Mark::Refused { message }
+            | Mark::Reply { message, .. }
+            | Mark::Delayed { message, .. }
+            | Mark::Notification { message } => Some(message),
+            _ => None,
+        }
+    }
+}

@@ -1,5 +1,4 @@
 //! How wide words are.
-ghost use Rattle.std.specs.Prelude.{◌<◌, ◌^◌};
 
 /// How wide the letters are from the space to `~`, in hundredths of the font's size: those of DejaVu
 /// Sans Bold, the widest of the fonts that a picture names.
@@ -18,22 +17,16 @@ const LEAST: u32 = 4;
 const MEASURED: usize = 120;
 
 /// How wide a letter is as it is shown.
-fn letter_width(byte: u8) -> u8 {
+fn letter_width(byte: u8) -> u32 {
     let place = usize::from(byte).saturating_sub(32);
-    match WIDTHS.get(place) {
-        Some(width) => *width,
-        None => UNSHOWN_WIDTH,
-    }
+    u32::from(*WIDTHS.get(place).unwrap_or(&UNSHOWN_WIDTH))
 }
 
 /// How wide a text is, in hundredths of the font's size.
-pub(crate) fn width_of(text: &[u8]) -> u32
-    ensures bound { result < 2 ^ 15 }
-{
-    let measured = &text[..text.len().min(MEASURED)];
-    let mut width = 0;
-    'letters: for byte in measured {
-        width += u32::from(letter_width(*byte));
+pub(crate) fn width_of(text: &[u8]) -> u32 {
+    let mut width = 0u32;
+    for byte in &text[..text.len().min(MEASURED)] {
+        width = width.saturating_add(letter_width(*byte));
     }
     width
 }
@@ -44,10 +37,8 @@ pub(crate) fn pixels(width: u32, size: u32) -> u32 {
 }
 
 /// How wide a text is in a font of this size, in pixels.
-pub(crate) fn width_in(text: &[u8], size: u8) -> u32
-    ensures bound { result < 2 ^ 17 }
-{
-    width_of(text) * u32::from(size) / 100
+pub(crate) fn width_in(text: &[u8], size: u32) -> u32 {
+    pixels(width_of(text), size)
 }
 
 /// The size of a font in which a text with this width in hundredths of it has room: at most

@@ -1,164 +1,115 @@
-//! Messages: their ways between two lifelines, their words, and their tokens.
+//! Messages: their ways between two lifelines, and their tokens.
 
-use crate::drawn_label::write_label;
-use crate::mark::Message;
+use crate::mark::{Mark, Message};
 use crate::place::Place;
-use crate::shape::{Point, write_cross, write_line};
-use std::io;
-use std::io::Write;
+use crate::shape::{NONE, NOTHING, Point, Shape, cross, line};
+use crate::value::Value;
 
-/// Writes a command: if it waited, it does so beside the platform.
-pub(crate) fn write_command<W: Write>(
-    writer: &mut W,
-    place: Place<'_>,
-    message: &Message,
-    token: Option<u16>,
-) -> io::Result<()> {
-    let agent = message.agent;
-    let way = Way {
-        from: place.agent_x(agent),
-        wait: place.waiting_x(agent),
-        to: place.beside_platform(agent, 5),
-    };
-    write_way(writer, place, message, way)?;
-    write_words_of(writer, place, message)?;
-    write_token(writer, place, agent, message.slot, token)
-}
+/// A token in a ring on the lifeline of an agent.
+const RING: &str = "<circle class=\"a% token\" cx=\"%\" cy=\"%\" r=\"%\"/>\n";
 
-/// Writes a message from the platform: if it waited, it does so beside the agent.
-pub(crate) fn write_answer<W: Write>(
-    writer: &mut W,
-    place: Place<'_>,
-    message: &Message,
-    token: Option<u16>,
-) -> io::Result<()> {
-    let agent = message.agent;
-    let way = Way {
-        from: place.beside_platform(agent, 5),
-        wait: place.beside_agent(agent, 22),
-        to: place.agent_x(agent),
-    };
-    write_way(writer, place, message, way)?;
-    write_words_of(writer, place, message)?;
-    write_token(writer, place, agent, message.taken, token)
-}
+const TOKEN: &str = "<text class=\"a% in\" x=\"%\" y=\"%\" dy=\"3\">%</text>\n";
 
-/// Where a message comes from, where it waits, and where it goes.
-#[derive(Clone, Copy)]
-struct Way {
-    from: u32,
-    wait: u32,
-    to: u32,
-}
-
-/// Writes the way of a message: straight if it is taken in its slot, else to the place where it
-/// waits, down, and on.
-fn write_way<W: Write>(
-    writer: &mut W,
-    place: Place<'_>,
-    message: &Message,
-    way: Way,
-) -> io::Result<()> {
-    let (leaves, taken) = (place.line_y(message.slot), place.line_y(message.taken));
-    let from = Point {
-        x: way.from,
-        y: leaves,
-    };
-    let to = Point {
-        x: way.to,
-        y: taken,
-    };
-    if message.taken <= message.slot {
-        return write_line(
-            writer,
-            "head",
-            from,
-            Point {
-                x: way.to,
-                y: leaves,
-            },
-        );
+/// The way of the message that a mark shows, if it does.
+pub(crate) fn way_of(place: Place<'_>, mark: &Mark) -> [Shape<'static>; 3] {
+    match mark {
+        Mark::Command { message, .. } => command_way(place, message),
+        Mark::Withdrawn { message, .. } => withdrawn_way(place, message),
+        Mark::Refused { message } => refused_way(place, message),
+        Mark::Reply { message, .. }
+        | Mark::Notification { message }
+        | Mark::Delayed { message, .. } => answer_way(place, message),
+        _ => [NOTHING, NOTHING, NOTHING],
     }
-    let corner = Point {
-        x: way.wait,
-        y: leaves,
-    };
-    let end = Point {
-        x: way.wait,
-        y: taken,
-    };
-    write_line(writer, "way", from, corner)?;
-    write_line(writer, "wait", corner, end)?;
-    write_line(writer, "head", end, to)
 }
 
-/// Writes a command that never was executed: it ends in a cross where commands wait.
-pub(crate) fn write_withdrawn<W: Write>(
-    writer: &mut W,
-    place: Place<'_>,
-    message: &Message,
-    token: Option<u16>,
-) -> io::Result<()> {
-    let end = place.waiting_x(message.agent);
-    write_cut(writer, place, message, end)?;
-    write_token(writer, place, message.agent, message.slot, token)
+/// The way of a command: if it waited, it does so beside the platform.
+fn command_way(place: Place<'_>, message: &Message) -> [Shape<'static>; 3] {
+    let agent = message.agent;
+    let from = place.agent_x(agent);
+    let to = place.beside_platform(agent, 5);
+    way(place, message, from, place.waiting_x(agent), to)
 }
 
-/// Writes a command that could not be posted: it ends in a cross beside its agent.
-pub(crate) fn write_refused<W: Write>(
-    writer: &mut W,
-    place: Place<'_>,
-    message: &Message,
-) -> io::Result<()> {
-    write_cut(
-        writer,
-        place,
-        message,
-        place.beside_agent(message.agent, 24),
-    )
+/// The way of a message from the platform: if it waited, it does so beside the agent.
+fn answer_way(place: Place<'_>, message: &Message) -> [Shape<'static>; 3] {
+    let agent = message.agent;
+    let from = place.beside_platform(agent, 5);
+    let wait = place.beside_agent(agent, 22);
+    way(place, message, from, wait, place.agent_x(agent))
 }
 
-/// Writes a way from an agent that ends in a cross, and the words of the message.
-fn write_cut<W: Write>(
-    writer: &mut W,
-    place: Place<'_>,
-    message: &Message,
-    x: u32,
-) -> io::Result<()> {
-    let y = place.line_y(message.slot);
-    let from = Point {
-        x: place.agent_x(message.agent),
-        y,
-    };
-    write_line(writer, "way", from, Point { x, y })?;
-    write_cross(writer, "lost", Point { x, y })?;
-    write_words_of(writer, place, message)
+/// The way of a message: straight if it is taken in its slot, else to the place where it waits,
+/// down, and on.
+fn way(place: Place<'_>, message: &Message, from: u32, wait: u32, to: u32) -> [Shape<'static>; 3] {
+    let (leaves, taken) = (place.line_y(message.slot), place.line_y(message.taken));
+    let from = Point { x: from, y: leaves };
+    if message.taken <= message.slot {
+        return [
+            line("head", from, Point { x: to, y: leaves }),
+            NOTHING,
+            NOTHING,
+        ];
+    }
+    let corner = Point { x: wait, y: leaves };
+    let end = Point { x: wait, y: taken };
+    [
+        line("way", from, corner),
+        line("wait", corner, end),
+        line("head", end, Point { x: to, y: taken }),
+    ]
 }
 
-/// Writes the words of a message, above its line and beside the platform.
-fn write_words_of<W: Write>(writer: &mut W, place: Place<'_>, message: &Message) -> io::Result<()> {
-    let at = Point {
-        x: place.words_x(message.agent),
-        y: place.line_y(message.slot) - 6,
-    };
-    write_label(writer, &message.label, at, place.room())
+/// The way of a command that never was executed, which ends in a cross where commands wait.
+fn withdrawn_way(place: Place<'_>, message: &Message) -> [Shape<'static>; 3] {
+    cut(place, message, place.waiting_x(message.agent))
 }
 
-/// Writes a token in a ring on the lifeline of an agent, if there is one.
-fn write_token<W: Write>(
-    writer: &mut W,
-    place: Place<'_>,
-    agent: u8,
-    slot: u16,
-    token: Option<u16>,
-) -> io::Result<()> {
-    let Some(token) = token else {
-        return Ok(());
-    };
-    let (x, y) = (place.agent_x(agent), place.line_y(slot));
-    let radius = if token < 100 { 9 } else { 13 };
-    write!(
-        writer,
-        "<circle class=\"a{agent} token\" cx=\"{x}\" cy=\"{y}\" r=\"{radius}\"/>\n<text class=\"a{agent} in\" x=\"{x}\" y=\"{y}\" dy=\"3\">{token}</text>\n"
-    )
+/// The way of a command that could not be posted, which ends in a cross beside its agent.
+fn refused_way(place: Place<'_>, message: &Message) -> [Shape<'static>; 3] {
+    cut(place, message, place.beside_agent(message.agent, 24))
+}
+
+/// A way from an agent that ends in a cross.
+fn cut(place: Place<'_>, message: &Message, x: u32) -> [Shape<'static>; 3] {
+    let from = place.at_agent(message.agent, message.slot);
+    let end = Point { x, y: from.y };
+    [line("way", from, end), cross("lost", end), NOTHING]
+}
+
+/// The token that is shown of a message on the lifeline of its agent.
+pub(crate) fn token_of(place: Place<'_>, mark: &Mark) -> [Shape<'static>; 2] {
+    match mark {
+        Mark::Command {
+            message,
+            token: Some(token),
+        }
+        | Mark::Withdrawn {
+            message,
+            token: Some(token),
+        } => token_at(place, message.agent, message.slot, *token),
+        Mark::Delayed { message, token } => {
+            token_at(place, message.agent, message.taken, *token)
+        }
+        _ => [NOTHING, NOTHING],
+    }
+}
+
+/// A token in a ring on the lifeline of an agent.
+fn token_at(place: Place<'_>, agent: u8, slot: u16, token: u16) -> [Shape<'static>; 2] {
+    let at = place.at_agent(agent, slot);
+    let radius = Value::Number(if token < 100 { 9 } else { 13 });
+    let agent = Value::Number(u32::from(agent));
+    let (x, y) = (Value::Number(at.x), Value::Number(at.y));
+    let token = Value::Number(u32::from(token));
+    [
+        Shape {
+            text: RING,
+            values: [agent, x, y, radius, NONE, NONE],
+        },
+        Shape {
+            text: TOKEN,
+            values: [agent, x, y, token, NONE, NONE],
+        },
+    ]
 }

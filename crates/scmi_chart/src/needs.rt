@@ -1,5 +1,4 @@
 //! How much room the parts of a chart need, in pixels.
-ghost use Rattle.std.specs.Prelude.{◌<◌, ◌^◌};
 
 use crate::chart::{Column, Dropped, Kind, Lifeline, Span, State, Step};
 use crate::drawn_label::label_needs;
@@ -16,7 +15,7 @@ pub(crate) struct Bounds {
     gap: u32,
     /// The size of the names of agents, and the least and the greatest distance between two agents
     /// on one side, of which this is not the box of a name.
-    name: u8,
+    name: u32,
     side: u32,
     wide_side: u32,
     space: u32,
@@ -59,74 +58,65 @@ pub(crate) fn bounds_of(agents: usize) -> Bounds {
 }
 
 /// The room that the lines of a script need.
-pub(crate) fn script_of(steps: &[Step], bounds: Bounds) -> u16
-    ensures bound { result < 2 ^ 10 }
-{
+pub(crate) fn script_of(steps: &[Step], bounds: Bounds) -> u32 {
     let longest = steps
         .iter()
         .map(|step: &Step| step.text.len().min(bounds.shown))
         .max();
-    76 + 6 * longest.unwrap_or(0).max(14).min(60) as u16
+    76 + 6 * longest.unwrap_or(0).max(14).min(60) as u32
 }
 
 /// The room that the words of a mark need beside the platform.
 fn mark_width(mark: &Mark, bounds: Bounds) -> u32 {
+    if let Some(message) = mark.message() {
+        let room = bounds.gap.saturating_sub(MARGIN);
+        return label_needs(&message.label, room).saturating_add(MARGIN);
+    }
     match mark {
-        Mark::Command { message, .. }
-        | Mark::Withdrawn { message, .. }
-        | Mark::Refused { message }
-        | Mark::Reply { message, .. }
-        | Mark::Delayed { message, .. }
-        | Mark::Notification { message } => {
-            let room = bounds.gap.saturating_sub(MARGIN);
-            MARGIN.saturating_add(label_needs(&message.label, room))
-        }
         Mark::Closed { text, .. } | Mark::Remark { text, .. } | Mark::Fault { text, .. } => {
-            MARGIN + width_in(text, 11)
+            width_in(text, 11).saturating_add(MARGIN)
         }
-        Mark::Execution { .. } | Mark::Posted { .. } => 0,
         Mark::Advance { text, .. } | Mark::Failed { text, .. } | Mark::Restarted { text, .. } => {
             width_in(text, 11) / 2
         }
+        _ => 0,
     }
 }
 
 /// The distance between the platform and the nearest agent.
-pub(crate) fn gap_of(marks: &[Mark], bounds: Bounds) -> u16 {
+pub(crate) fn gap_of(marks: &[Mark], bounds: Bounds) -> u32 {
     let widest = marks
         .iter()
         .map(|mark: &Mark| mark_width(mark, bounds))
         .max();
-    widest.unwrap_or(0).max(GAP).min(bounds.gap).min(400) as u16
+    widest.unwrap_or(0).max(GAP).min(bounds.gap)
 }
 
 /// The room that a mark needs beside the platform where no agent is.
 fn width_beyond(mark: &Mark) -> u32 {
     match mark {
-        Mark::Fault { text, .. } => 76 + width_in(text, 10),
+        Mark::Fault { text, .. } => width_in(text, 10).saturating_add(76),
         Mark::Advance { text, .. } | Mark::Failed { text, .. } | Mark::Restarted { text, .. } => {
-            46 + width_in(text, 11) / 2
+            (width_in(text, 11) / 2).saturating_add(46)
         }
         _ => PLATFORM,
     }
 }
 
 /// The room beside the platform where no agent is: that of half its box, at least.
-pub(crate) fn beyond_of(marks: &[Mark]) -> u16 {
+pub(crate) fn beyond_of(marks: &[Mark]) -> u32 {
     let widest = marks.iter().map(width_beyond).max();
-    widest.unwrap_or(0).max(PLATFORM).min(300) as u16
+    widest.unwrap_or(0).max(PLATFORM).min(300)
 }
 
 /// The distance between two agents on one side: the box of a name, and some room.
-pub(crate) fn side_of(lifelines: &[Lifeline], bounds: Bounds) -> u16
-    ensures bound { result < 2 ^ 10 }
-{
+pub(crate) fn side_of(lifelines: &[Lifeline], bounds: Bounds) -> u32 {
     let widest = lifelines
         .iter()
         .map(|lifeline: &Lifeline| width_in(&lifeline.name, bounds.name))
         .max();
     let side = widest.unwrap_or(0).saturating_add(bounds.space);
-    side.max(bounds.side).min(bounds.wide_side).min(300) as u16
+    side.max(bounds.side).min(bounds.wide_side)
 }
 
 /// The room that a state and its words need.
@@ -182,17 +172,13 @@ fn column_width(column: &Column, bounds: Bounds) -> u32 {
 pub(crate) struct Group {
     pub count: u8,
     /// The width of each.
-    pub width: u16,
+    pub width: u32,
 }
 
 impl Group {
     /// The width of this many of these columns.
-    pub fn width_of(self, count: u8) -> u32
-        ensures bound { result < 2 ^ 17 }
-    {
-        let width = u32::from(self.width).saturating_mul(u32::from(count));
-        // 255 of the widest columns have less.
-        width.min(100_000)
+    pub fn width_of(self, count: u8) -> u32 {
+        self.width.saturating_mul(u32::from(count))
     }
 }
 
@@ -217,6 +203,6 @@ pub(crate) fn group_of(columns: &[Column], order: u8, bounds: Bounds) -> Group {
     }
     Group {
         count,
-        width: width.min(WIDE_COLUMN) as u16,
+        width: width.min(WIDE_COLUMN),
     }
 }

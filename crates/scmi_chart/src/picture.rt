@@ -3,27 +3,32 @@
 use crate::chart::Chart;
 use crate::column::write_columns;
 use crate::drawn_marks::write_mark;
-use crate::escape::write_escaped;
 use crate::legend::{legend_height, write_legend};
 use crate::lifeline::{write_lifelines, write_rows};
 use crate::measure::width_in;
 use crate::place::Place;
 use crate::script::write_steps;
-use crate::shape::{Point, write_line, write_words};
+use crate::shape::{Point, Shape, line, words, write_shapes};
 use crate::style::STYLE;
+use crate::value::Value;
 use std::io;
 use std::io::Write;
 
+const HEAD: &str = "<svg xmlns=\"http://www.w3.org/2000/svg\" width=\"%\" height=\"%\" \
+viewBox=\"0 0 % %\" role=\"img\" aria-labelledby=\"title below\">\n<title id=\"title\">%</title>\n\
+<desc id=\"below\">SCMI sequence chart: %</desc>\n";
 /// The width of a screen, which a picture has at most if it can.
 const SCREEN: u32 = 1_800;
 
 /// Writes the chart as an SVG. The error is the writer's; some parts may then be written.
 pub fn write_chart<W: Write>(writer: &mut W, chart: &Chart) -> io::Result<()> {
     let place = Place::of(chart);
-    write_head(writer, place, chart)?;
+    write_shapes(writer, &[head_of(place, chart)])?;
+    writer.write_all(STYLE.as_bytes())?;
+    write_shapes(writer, &titles_of(chart))?;
     write_steps(writer, place, &chart.steps)?;
     write_lifelines(writer, place, &chart.lifelines)?;
-    write_border(writer, place)?;
+    write_shapes(writer, &[border_of(place)])?;
     write_columns(writer, place, &chart.columns)?;
     write_rows(writer, place, chart)?;
     for mark in &chart.marks {
@@ -32,7 +37,7 @@ pub fn write_chart<W: Write>(writer: &mut W, chart: &Chart) -> io::Result<()> {
     write_legend(
         writer,
         chart,
-        place.bottom() + 26,
+        place.bottom().saturating_add(26),
         legend_width(place, chart),
     )?;
     writer.write_all(b"</svg>\n")
@@ -48,9 +53,10 @@ struct Size {
 impl Size {
     /// The size of a chart's picture.
     fn of(place: Place<'_>, chart: &Chart) -> Size {
+        let legend = legend_height(chart, legend_width(place, chart));
         Size {
             width: width_of(place, chart),
-            height: place.bottom() + 36 + legend_height(chart, legend_width(place, chart)),
+            height: place.bottom().saturating_add(36).saturating_add(legend),
         }
     }
 
@@ -76,29 +82,36 @@ fn legend_width(place: Place<'_>, chart: &Chart) -> u32 {
     width_of(place, chart).saturating_sub(48)
 }
 
-/// Writes the head of the file, the paper and the title.
-fn write_head<W: Write>(writer: &mut W, place: Place<'_>, chart: &Chart) -> io::Result<()> {
+/// The head of the file.
+fn head_of<'a>(place: Place<'_>, chart: &'a Chart) -> Shape<'a> {
     let size = Size::of(place, chart);
-    let (width, height) = (size.width, size.height);
     let shown = size.shown();
-    let (shown_width, shown_height) = (shown.width, shown.height);
-    write!(
-        writer,
-        "<svg xmlns=\"http://www.w3.org/2000/svg\" width=\"{shown_width}\" height=\"{shown_height}\" viewBox=\"0 0 {width} {height}\" role=\"img\" aria-labelledby=\"title below\">\n<title id=\"title\">"
-    )?;
-    write_escaped(writer, &chart.title)?;
-    writer.write_all(b"</title>\n<desc id=\"below\">SCMI sequence chart: ")?;
-    write_escaped(writer, &chart.subtitle)?;
-    writer.write_all(b"</desc>\n")?;
-    writer.write_all(STYLE.as_bytes())?;
-    writer.write_all(b"<rect class=\"paper\" width=\"100%\" height=\"100%\"/>\n")?;
-    write_words(writer, "title", Point { x: 24, y: 34 }, &chart.title)?;
-    write_words(writer, "soft", Point { x: 24, y: 55 }, &chart.subtitle)
+    let (shown_width, shown_height) = (Value::Number(shown.width), Value::Number(shown.height));
+    let (width, height) = (Value::Number(size.width), Value::Number(size.height));
+    let (title, below) = (
+        Value::Outside(&chart.title),
+        Value::Outside(&chart.subtitle),
+    );
+    Shape {
+        text: HEAD,
+        values: [shown_width, shown_height, width, height, title, below],
+    }
 }
 
-/// Writes the line between the lifelines and the columns.
-fn write_border<W: Write>(writer: &mut W, place: Place<'_>) -> io::Result<()> {
-    let x = place.border_x();
-    let y = place.bottom();
-    write_line(writer, "border", Point { x, y: 84 }, Point { x, y })
+/// The title, and the text below it.
+fn titles_of(chart: &Chart) -> [Shape<'_>; 2] {
+    let (title, below) = (
+        Value::Outside(&chart.title),
+        Value::Outside(&chart.subtitle),
+    );
+    [
+        words("title", Point { x: 24, y: 34 }, title),
+        words("soft", Point { x: 24, y: 55 }, below),
+    ]
+}
+
+/// The line between the lifelines and the columns.
+fn border_of(place: Place<'_>) -> Shape<'static> {
+    let (x, y) = (place.border_x(), place.bottom());
+    line("border", Point { x, y: 84 }, Point { x, y })
 }

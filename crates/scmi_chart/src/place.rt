@@ -3,11 +3,11 @@
 //! The words of all messages are in the two gaps beside the platform's lifeline, so only these are
 //! wide. At most one message leaves in a slot, and its words are above its line, in at most two rows:
 //! no label lies over another. Five agents and more are nearer to each other, so that they fit a
-//! screen. Slots, agents and columns are numbered by `u16` and `u8`, so no sum of these can wrap.
-ghost use Rattle.std.specs.Prelude.{◌<◌, ◌≤◌, ◌^◌};
+//! screen. Sums that would wrap end at the largest number.
 
 use crate::chart::{Chart, Kind, Step};
 use crate::needs::{Bounds, Group, beyond_of, bounds_of, gap_of, group_of, script_of, side_of};
+use crate::shape::Point;
 
 /// The most agents of a chart.
 const AGENTS: usize = 8;
@@ -27,7 +27,7 @@ const AT_AGENT: u32 = 34;
 /// Both.
 pub(crate) const MARGIN: u32 = AT_PLATFORM + AT_AGENT;
 /// By how much the middle of the words is nearer to the agent than to the platform.
-const ASIDE: u16 = 9;
+const ASIDE: u32 = 9;
 
 /// Where the lifelines and columns of a chart are, and how far down they go.
 #[derive(Clone, Copy)]
@@ -37,13 +37,13 @@ pub(crate) struct Place<'a> {
     agents: u8,
     bounds: Bounds,
     /// The first lifeline.
-    left: u16,
+    left: u32,
     /// The distance between two agents on one side of the platform.
-    side: u16,
+    side: u32,
     /// The distance between the platform and the nearest agent.
-    gap: u16,
+    gap: u32,
     /// The room beside the platform where no agent is.
-    beyond: u16,
+    beyond: u32,
     /// The columns, in their order.
     domains: Group,
     clocks: Group,
@@ -59,7 +59,7 @@ impl<'a> Place<'a> {
             slots: chart.slots,
             agents: chart.lifelines.len().min(AGENTS) as u8,
             bounds,
-            left: script_of(&chart.steps, bounds) + side / 2,
+            left: script_of(&chart.steps, bounds).saturating_add(side / 2),
             side,
             gap: gap_of(&chart.marks, bounds),
             beyond: beyond_of(&chart.marks),
@@ -70,9 +70,7 @@ impl<'a> Place<'a> {
     }
 
     /// How many agents are to the left of the platform.
-    fn left_agents(self) -> u32
-        ensures bound { result < 2 ^ 8 }
-    {
+    fn left_agents(self) -> u32 {
         (u32::from(self.agents) + 1) / 2
     }
 
@@ -81,91 +79,86 @@ impl<'a> Place<'a> {
         u32::from(agent) <= self.left_agents()
     }
 
-    pub fn platform_x(self) -> u32
-        ensures bound { result < 2 ^ 25 }
-    {
+    pub fn platform_x(self) -> u32 {
         let before = self.left_agents().saturating_sub(1);
-        u32::from(self.left) + u32::from(self.side) * before + u32::from(self.gap)
+        self.left
+            .saturating_add(self.side.saturating_mul(before))
+            .saturating_add(self.gap)
     }
 
     /// How many agents are between an agent and the platform.
-    fn rank(self, agent: u8) -> u32
-        ensures bound { result < 2 ^ 8 }
-    {
-        if self.is_left(agent) {
-            self.left_agents().saturating_sub(u32::from(agent))
+    fn rank(self, agent: u8) -> u32 {
+        let (agent, left) = (u32::from(agent), self.left_agents());
+        if agent <= left {
+            left.saturating_sub(agent)
         } else {
-            u32::from(agent).saturating_sub(self.left_agents() + 1)
+            agent.saturating_sub(left).saturating_sub(1)
         }
     }
 
-    pub fn agent_x(self, agent: u8) -> u32
-        ensures bound { result < 2 ^ 26 }
-    {
-        let distance = u32::from(self.gap) + u32::from(self.side) * self.rank(agent);
-        if self.is_left(agent) {
-            self.platform_x().saturating_sub(distance)
-        } else {
-            self.platform_x() + distance
+    pub fn agent_x(self, agent: u8) -> u32 {
+        let between = self.side.saturating_mul(self.rank(agent));
+        self.beside_platform(agent, self.gap.saturating_add(between))
+    }
+
+    /// The line of a slot at the platform's lifeline.
+    pub fn at_platform(self, slot: u16) -> Point {
+        Point {
+            x: self.platform_x(),
+            y: self.line_y(slot),
+        }
+    }
+
+    /// The line of a slot at the lifeline of an agent.
+    pub fn at_agent(self, agent: u8, slot: u16) -> Point {
+        Point {
+            x: self.agent_x(agent),
+            y: self.line_y(slot),
         }
     }
 
     /// At this distance from the platform's lifeline, towards the agent's.
-    pub fn beside_platform(self, agent: u8, distance: u16) -> u32
-        ensures bound { result < 2 ^ 26 }
-    {
+    pub fn beside_platform(self, agent: u8, distance: u32) -> u32 {
         if self.is_left(agent) {
-            self.platform_x().saturating_sub(u32::from(distance))
+            self.platform_x().saturating_sub(distance)
         } else {
-            self.platform_x() + u32::from(distance)
+            self.platform_x().saturating_add(distance)
         }
     }
 
     /// At this distance from the agent's lifeline, towards the platform's.
-    pub fn beside_agent(self, agent: u8, distance: u16) -> u32
-        ensures bound { result < 2 ^ 27 }
-    {
+    pub fn beside_agent(self, agent: u8, distance: u32) -> u32 {
         if self.is_left(agent) {
-            self.agent_x(agent) + u32::from(distance)
+            self.agent_x(agent).saturating_add(distance)
         } else {
-            self.agent_x(agent).saturating_sub(u32::from(distance))
+            self.agent_x(agent).saturating_sub(distance)
         }
     }
 
     /// Where a command of this agent waits for the platform: each agent of a side has its own place.
-    pub fn waiting_x(self, agent: u8) -> u32
-        ensures bound { result < 2 ^ 26 }
-    {
-        self.beside_platform(agent, 18 + 8 * self.rank(agent).min(8) as u16)
+    pub fn waiting_x(self, agent: u8) -> u32 {
+        self.beside_platform(agent, 18 + 8 * self.rank(agent).min(8))
     }
 
     /// The middle of the words between the platform and the agents of this agent's side.
     pub fn words_x(self, agent: u8) -> u32 {
-        self.beside_platform(agent, self.gap / 2 + ASIDE)
+        self.beside_platform(agent, (self.gap / 2).saturating_add(ASIDE))
     }
 
     /// At this distance from the agent that is nearest to the platform, towards the platform.
-    pub fn inner_x(self, agent: u8, distance: u16) -> u32 {
+    pub fn inner_x(self, agent: u8, distance: u32) -> u32 {
         self.beside_platform(agent, self.gap.saturating_sub(distance))
     }
 
     /// The room for these words.
-    pub fn room(self) -> u32
-        ensures bound { result < 2 ^ 16 }
-    {
-        u32::from(self.gap).saturating_sub(MARGIN)
+    pub fn room(self) -> u32 {
+        self.gap.saturating_sub(MARGIN)
     }
 
     /// The width of the box of an agent's name.
-    pub fn head(self) -> u32
-        ensures bound { result < 2 ^ 16 }
-    {
-        u32::from(self.side).saturating_sub(if self.is_crowded() { 8 } else { 16 })
-    }
-
-    /// Whether the agents are nearer to each other.
-    fn is_crowded(self) -> bool {
-        self.agents > 4
+    pub fn head(self) -> u32 {
+        self.side
+            .saturating_sub(if self.agents > 4 { 8 } else { 16 })
     }
 
     /// The most characters of a line of the script that are shown.
@@ -173,50 +166,24 @@ impl<'a> Place<'a> {
         self.bounds.shown
     }
 
-    /// The last lifeline.
-    fn last_x(self) -> u32
-        ensures bound { result < 2 ^ 26 }
-    {
-        if self.is_left(self.agents) {
-            self.platform_x()
-        } else {
-            self.agent_x(self.agents)
-        }
-    }
-
-    /// The room beside the last lifeline.
-    fn room_beyond(self) -> u32
-        ensures bound { result < 2 ^ 16 }
-    {
-        if self.is_left(self.agents) {
-            u32::from(self.beyond)
-        } else {
-            u32::from(self.side) / 2
-        }
-    }
-
     /// The line between the lifelines and the columns.
-    pub fn border_x(self) -> u32
-        ensures bound { result < 2 ^ 27 }
-    {
-        self.last_x() + self.room_beyond() + 16
+    pub fn border_x(self) -> u32 {
+        let (last, room) = if self.is_left(self.agents) {
+            (self.platform_x(), self.beyond)
+        } else {
+            (self.agent_x(self.agents), self.side / 2)
+        };
+        last.saturating_add(room).saturating_add(16)
     }
 
-    /// The width of the columns before this one.
-    fn columns_width(self, place: u8) -> u32
-        ensures bound { result < 2 ^ 24 }
-    {
+    pub fn column_x(self, place: u8) -> u32 {
         let clock = place.saturating_sub(self.domains.count);
         let outbox = clock.saturating_sub(self.clocks.count);
-        self.domains.width_of(place.min(self.domains.count))
-            + self.clocks.width_of(clock.min(self.clocks.count))
-            + self.outboxes.width_of(outbox.min(self.outboxes.count))
-    }
-
-    pub fn column_x(self, place: u8) -> u32
-        ensures bound { result < 2 ^ 28 }
-    {
-        self.border_x() + 30 + self.columns_width(place)
+        self.border_x()
+            .saturating_add(30)
+            .saturating_add(self.domains.width_of(place.min(self.domains.count)))
+            .saturating_add(self.clocks.width_of(clock.min(self.clocks.count)))
+            .saturating_add(self.outboxes.width_of(outbox.min(self.outboxes.count)))
     }
 
     /// The room for the name of a column of this kind.
@@ -226,20 +193,15 @@ impl<'a> Place<'a> {
             Kind::Clock => self.clocks,
             Kind::Outbox(_) => self.outboxes,
         };
-        u32::from(group.width).saturating_sub(20)
+        group.width.saturating_sub(20)
     }
 
-    pub fn width(self) -> u32
-        ensures bound { result < 2 ^ 28 }
-    {
+    pub fn width(self) -> u32 {
         self.column_x(255)
     }
 
     /// Where the lifelines end.
-    pub fn bottom(self) -> u32
-        ensures bound { result < 2 ^ 23 }
-        ensures room { 128 ≤ result }
-    {
+    pub fn bottom(self) -> u32 {
         self.line_y(self.slots)
     }
 
@@ -253,25 +215,17 @@ impl<'a> Place<'a> {
     }
 
     /// The upper edge of a slot.
-    pub fn slot_y(self, slot: u16) -> u32
-        ensures bound { result < 2 ^ 22 }
-        ensures room { 150 ≤ result }
-    {
+    pub fn slot_y(self, slot: u16) -> u32 {
         TOP + SLOT * u32::from(slot) + AGAIN * u32::from(self.rows(slot))
     }
 
     /// The line of a slot on which its mark is drawn.
-    pub fn line_y(self, slot: u16) -> u32
-        ensures bound { result < 2 ^ 23 }
-        ensures room { 150 ≤ result }
-    {
-        self.slot_y(slot) + 21
+    pub fn line_y(self, slot: u16) -> u32 {
+        self.slot_y(slot).saturating_add(21)
     }
 
     /// Where a state that begins or ends at this time does so.
-    pub fn state_y(self, time: u16) -> u32
-        ensures bound { result < 2 ^ 23 }
-    {
+    pub fn state_y(self, time: u16) -> u32 {
         match time.checked_sub(1) {
             Some(slot) => self.line_y(slot),
             None => TOP - 11,

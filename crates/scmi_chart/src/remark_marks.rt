@@ -1,8 +1,9 @@
-//! Words beside lifelines, of what came to nothing.
+//! Words beside lifelines, of what came to nothing, and agents that restart.
 ghost use Rattle.std.specs.Prelude.{◌≡◌, [], ◌∷◌, OnOk};
-ghost use Rattle.scmi_chart.specs.Signs.{remarked};
+ghost use Rattle.scmi_chart.specs.Signs.{remarked, restarted};
 ghost use Rattle.scmi_chart.specs.Shown.{adds};
 
+use crate::board_names::agent_name;
 use crate::mark::{Mark, Side};
 use crate::recorder::Recorder;
 use std::alloc::AllocError;
@@ -25,5 +26,13 @@ impl<'a> Recorder<'a> {
             beside,
             text,
         })
+    }
+
+    /// The platform ended what an agent asked for that restarted.
+    pub(crate) fn record_restart(&mut self, agent: u8, slot: u16) -> Result<(), AllocError>
+        ensures { OnOk result (self.new ≡ adds (restarted agent ∷ []) self.old) }
+    {
+        let text = agent_name(self.alloc, self.board, u32::from(agent))?;
+        self.marks.add(Mark::Restarted { agent, slot, text })
     }
 }

@@ -7,16 +7,19 @@ ghost use Rattle.scmi_board.specs.BoardLines.{IsLineOf, described};
 ghost use Rattle.scmi_board.specs.Lines.{lines_left};
 ghost use Rattle.scmi_text.specs.Step.{IsStepOf};
 ghost use Rattle.scmi_text.specs.TextLines.{GivesScript};
-ghost use Rattle.scmi_modes.specs.RunError.{fault_of_plan, status_of};
-ghost use Rattle.scmi_chart.specs.Run.{MayHave, ShowsRun, ShowsScript, StandsFor, script_of_lines};
+ghost use Rattle.scmi_modes.specs.Input.{script_of_lines};
+ghost use Rattle.scmi_modes.specs.Steps.{MayHave};
+ghost use Rattle.scmi_chart.specs.Run.{ShowsRun, ShowsScript, StandsFor};
 
 use crate::chart::Chart;
-use crate::mode::Mode;
 use crate::record_step::record_step;
 use crate::recorder::Recorder;
 use scmi_board::{BoardWithLines, END, Lines, TextError, TextLine};
 use scmi_link::{Channel, RingChannel};
-use scmi_modes::{Kind, RunError, Session, plan_of, read_described};
+use scmi_modes::{
+    HARDWARE_RINGS, HARDWARE_WORDS, Kind, RunError, STEPS_RINGS, STEPS_WORDS, ScriptKind, Session,
+    plan_of, read_described,
+};
 use scmi_plan::{Plan, RawPlan};
 use scmi_text::{Step, StepList, read_hardware_steps, read_steps};
 use scmi_words::WordChannel;
@@ -25,68 +28,80 @@ use std::alloc::{AllocError, Global};
 /// The most lines of a script.
 pub const STEPS: usize = 2_000;
 
-/// The chart of the run of a board and a script in this mode. `Board`, `Script`, `Size` and `Plan`,
-/// in this order, if the input is rejected; `Memory` if out of memory. Beside each step stands its
-/// line of `written`, or else of the script itself.
+/// The chart of the run of a board and a script of this kind, over channels of this kind. `Board`,
+/// `Script`, `Size` and `Plan`, in this order, if the input is rejected; `Memory` if out of memory.
+/// Beside each step stands its line of `written`, or else of the script itself.
 #[tactic(auto, using(crate::proofs::Inputs::steps_of_plan))]
 pub fn chart_of(
     alloc: Global,
-    mode: Mode,
+    script: ScriptKind,
+    kind: Kind,
     bytes: &[u8],
     written: Option<&[u8]>,
 ) -> Result<Chart, RunError>
-    ensures shown { IfOk result (ShowsScript mode bytes.now) }
+    ensures shown { IfOk result (ShowsScript script kind bytes.now) }
 {
-    let (said, steps) = read_input(alloc, mode, bytes)?;
+    let (said, steps) = read_input(alloc, script, bytes)?;
     if steps.len() > STEPS {
         return Err(RunError::Size);
     }
     let plan = plan_of(alloc, &said)?;
     let mut lines = behind_board(written.unwrap_or(bytes));
-    match mode {
-        Mode::Steps(Kind::Rings) | Mode::Hardware(Kind::Rings) => {
+    let mode = mode_of(script, kind);
+    match kind {
+        Kind::Rings => {
             step_through::<RingChannel>(alloc, mode, plan, &said.board, &steps, &mut lines)
         }
-        Mode::Steps(Kind::Words) | Mode::Hardware(Kind::Words) => {
+        Kind::Words => {
             step_through::<WordChannel>(alloc, mode, plan, &said.board, &steps, &mut lines)
         }
     }
 }
 
-/// The board and the steps after the first line, in a script of this mode.
+/// The first line that names the mode of a script of this kind over channels of this kind.
+fn mode_of(script: ScriptKind, kind: Kind) -> &'static str {
+    match (script, kind) {
+        (ScriptKind::Plain, Kind::Rings) => STEPS_RINGS,
+        (ScriptKind::Plain, Kind::Words) => STEPS_WORDS,
+        (ScriptKind::Hardware, Kind::Rings) => HARDWARE_RINGS,
+        (ScriptKind::Hardware, Kind::Words) => HARDWARE_WORDS,
+    }
+}
+
+/// The board and the steps after the first line, in a script of this kind.
 fn read_input<'a>(
     alloc: Global,
-    mode: Mode,
+    script: ScriptKind,
     bytes: &'a [u8],
 ) -> Result<(BoardWithLines, StepList<'a>), RunError>
     ensures agents { IfOk result (λ read.
         All (IsStepOf (length (described read.0).0.agents)) read.1) }
     ensures channels { IfOk result (λ read.
         All (IsLineOf (described read.0).0) (described read.0).1) }
-    ensures kinds { IfOk result (λ read. All (MayHave mode) read.1) }
-    ensures input { IfOk result (λ read. StandsFor mode bytes.now (described read.0) read.1) }
+    ensures kinds { IfOk result (λ read. All (MayHave script) read.1) }
+    ensures input { IfOk result (λ read. StandsFor script bytes.now (described read.0) read.1) }
 {
     let mut lines = Lines::new(bytes);
-    let said = read_described(alloc, &mut lines, mode.script())?;
-    let steps = read_script(alloc, mode, &mut lines, said.board.agent_count()?)?;
+    let said = read_described(alloc, &mut lines, script)?;
+    let steps = read_script(alloc, script, &mut lines, said.board.agent_count()?)?;
     Ok((said, steps))
 }
 
-/// The steps of all lines that are left, in a script of this mode.
+/// The steps of all lines that are left, in a script of this kind.
 fn read_script<'a>(
     alloc: Global,
-    mode: Mode,
+    script: ScriptKind,
     lines: &mut Lines<'a>,
     agents: u32,
 ) -> Result<StepList<'a>, TextError>
     ensures agents { IfOk result (λ steps. All (IsStepOf agents) steps) }
-    ensures kinds { IfOk result (λ steps. All (MayHave mode) steps) }
+    ensures kinds { IfOk result (λ steps. All (MayHave script) steps) }
     ensures steps { GivesScript (λ steps. steps) result
-        (script_of_lines mode agents (lines_left lines.old)) }
+        (script_of_lines script agents (lines_left lines.old)) }
 {
-    match mode {
-        Mode::Steps(_) => read_steps(alloc, lines, agents),
-        Mode::Hardware(_) => read_hardware_steps(alloc, lines, agents),
+    match script {
+        ScriptKind::Plain => read_steps(alloc, lines, agents),
+        ScriptKind::Hardware => read_hardware_steps(alloc, lines, agents),
     }
 }
 
@@ -104,7 +119,7 @@ fn behind_board(bytes: &[u8]) -> Lines<'_> {
 /// Makes the steps one by one, and records each, with the notifications that it dropped.
 fn step_through<C: Channel>(
     alloc: Global,
-    mode: Mode,
+    mode: &str,
     plan: Plan,
     board: &RawPlan,
     steps: &StepList<'_>,
@@ -128,11 +143,10 @@ fn step_through<C: Channel>(
 /// The line below the title of a run of this many steps, which left this many events.
 fn subtitle_of(
     alloc: Global,
-    mode: Mode,
+    mode: &str,
     steps: usize,
     events: usize,
 ) -> Result<Vec<u8>, AllocError> {
-    let mode = mode.line();
     let text = format!(in alloc;
         "{mode}, {steps} step{}, a history of {events} event{}",
         plural(steps),

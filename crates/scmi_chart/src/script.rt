@@ -1,13 +1,19 @@
 //! The lines of the script beside the lifelines.
 
 use crate::chart::Step;
-use crate::escape::write_escaped;
 use crate::place::{Place, SLOT};
+use crate::shape::{NONE, NOTHING, Shape, write_shapes};
+use crate::value::Value;
 use std::io;
 use std::io::Write;
 
 /// For how many characters the sign has room that marks the cut of a line.
 const SIGN: usize = 2;
+
+const SHADE: &str = "<rect class=\"band\" x=\"14\" y=\"%\" width=\"%\" height=\"%\" rx=\"4\"/>\n";
+/// A line of the script after its number.
+const LINE: &str = "<text class=\"mono line\" x=\"46\" y=\"%\">%</text>\n\
+<text class=\"mono\" x=\"56\" y=\"%\">%%</text>\n";
 
 /// Writes the steps of the script, each second one on a shade.
 pub(crate) fn write_steps<W: Write>(
@@ -16,39 +22,38 @@ pub(crate) fn write_steps<W: Write>(
     steps: &[Step],
 ) -> io::Result<()> {
     for step in steps {
-        if step.number % 2 == 0 {
-            write_shade(writer, place, step)?;
-        }
-        write_line_of(writer, place, step)?;
+        write_shapes(writer, &[shade_of(place, step), line_of(place, step)])?;
     }
     Ok(())
 }
 
-fn write_shade<W: Write>(writer: &mut W, place: Place<'_>, step: &Step) -> io::Result<()> {
-    let y = place.slot_y(step.slot);
-    let width = place.width().saturating_sub(28);
-    let height = SLOT * u32::from(step.slots);
-    write!(
-        writer,
-        "<rect class=\"band\" x=\"14\" y=\"{y}\" width=\"{width}\" height=\"{height}\" rx=\"4\"/>\n"
-    )
+fn shade_of(place: Place<'_>, step: &Step) -> Shape<'static> {
+    if step.number % 2 == 1 {
+        return NOTHING;
+    }
+    let y = Value::Number(place.slot_y(step.slot));
+    let width = Value::Number(place.width().saturating_sub(28));
+    let height = Value::Number(SLOT * u32::from(step.slots));
+    Shape {
+        text: SHADE,
+        values: [y, width, height, NONE, NONE, NONE],
+    }
 }
 
-/// Writes the line of the script after its number.
-fn write_line_of<W: Write>(writer: &mut W, place: Place<'_>, step: &Step) -> io::Result<()> {
-    let (line, y) = (step.line, place.slot_y(step.slot) + 20);
-    write!(
-        writer,
-        "<text class=\"mono line\" x=\"46\" y=\"{y}\">{line}</text>\n<text class=\"mono\" x=\"56\" y=\"{y}\">"
-    )?;
-    if step.text.len() <= place.shown() {
-        write_escaped(writer, &step.text)?;
+/// The line of the script after its number.
+fn line_of<'a>(place: Place<'_>, step: &'a Step) -> Shape<'a> {
+    let y = Value::Number(place.slot_y(step.slot).saturating_add(20));
+    let (text, sign): (&[u8], &[u8]) = if step.text.len() <= place.shown() {
+        (&step.text, b"")
     } else {
         let room = place.shown().saturating_sub(SIGN);
-        write_escaped(writer, beginning_of(&step.text, room))?;
-        writer.write_all(b" &#8230;")?;
+        (beginning_of(&step.text, room), b" &#8230;")
+    };
+    let (text, sign) = (Value::Outside(text), Value::Words(sign));
+    Shape {
+        text: LINE,
+        values: [y, Value::Number(step.line), y, text, sign, NONE],
     }
-    writer.write_all(b"</text>\n")
 }
 
 /// The beginning of a long line: the words that there is room for.

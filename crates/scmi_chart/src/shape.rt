@@ -1,7 +1,8 @@
-//! Lines, boxes, rings, crosses and words.
+//! Lines, boxes, rings, crosses and words: texts whose holes numbers and words fill.
 
-use crate::escape::write_escaped;
 use crate::measure::{size_in, width_of};
+use crate::value::Value;
+use scmi_io::write_filled;
 use std::io;
 use std::io::Write;
 
@@ -12,6 +13,24 @@ pub(crate) struct Point {
     pub y: u32,
 }
 
+impl Point {
+    /// The place that is this much to the left, and this much higher.
+    pub fn before(self, left: u32, up: u32) -> Point {
+        Point {
+            x: self.x.saturating_sub(left),
+            y: self.y.saturating_sub(up),
+        }
+    }
+
+    /// The place that is this much to the right, and this much lower.
+    pub fn behind(self, right: u32, down: u32) -> Point {
+        Point {
+            x: self.x.saturating_add(right),
+            y: self.y.saturating_add(down),
+        }
+    }
+}
+
 /// The room for a text, and the greatest size of its font.
 #[derive(Clone, Copy)]
 pub(crate) struct Fit {
@@ -19,86 +38,101 @@ pub(crate) struct Fit {
     pub size: u32,
 }
 
-/// Writes a line of this class.
-pub(crate) fn write_line<W: Write>(
-    writer: &mut W,
-    class: &str,
-    from: Point,
-    to: Point,
-) -> io::Result<()> {
-    let (x1, y1) = (from.x, from.y);
-    let (x2, y2) = (to.x, to.y);
-    write!(
-        writer,
-        "<line class=\"{class}\" x1=\"{x1}\" y1=\"{y1}\" x2=\"{x2}\" y2=\"{y2}\"/>\n"
-    )
+/// What is drawn: a text, and the values of its holes, in order. There are as many for each shape;
+/// those that have no hole are empty.
+#[derive(Clone, Copy)]
+pub(crate) struct Shape<'a> {
+    pub text: &'static str,
+    pub values: [Value<'a>; 6],
 }
 
-/// Writes a box of this class, with its left upper corner at a point.
-pub(crate) fn write_box<W: Write>(
-    writer: &mut W,
-    class: &str,
-    corner: Point,
-    width: u32,
-    height: u32,
-) -> io::Result<()> {
-    let (x, y) = (corner.x, corner.y);
-    write!(
-        writer,
-        "<rect class=\"{class}\" x=\"{x}\" y=\"{y}\" width=\"{width}\" height=\"{height}\"/>\n"
-    )
+/// The value that has no hole.
+pub(crate) const NONE: Value<'static> = Value::Words(b"");
+
+/// What is not drawn.
+pub(crate) const NOTHING: Shape<'static> = Shape {
+    text: "",
+    values: [NONE; 6],
+};
+
+const LINE: &str = "<line class=\"%\" x1=\"%\" y1=\"%\" x2=\"%\" y2=\"%\"/>\n";
+
+const BAR: &str = "<rect class=\"%\" x=\"%\" y=\"%\" width=\"%\" height=\"%\"/>\n";
+
+const RING: &str = "<circle class=\"%\" cx=\"%\" cy=\"%\" r=\"%\"/>\n";
+
+const CROSS: &str = "<path class=\"%\" d=\"M% %m-5 -5l10 10m0 -10l-10 10\"/>\n";
+
+const WORDS: &str = "<text class=\"%\" x=\"%\" y=\"%\">%</text>\n";
+
+const FITTED: &str = "<text class=\"%\" x=\"%\" y=\"%\" font-size=\"%\">%</text>\n";
+
+/// Writes shapes, in order.
+pub(crate) fn write_shapes<W: Write>(writer: &mut W, shapes: &[Shape<'_>]) -> io::Result<()> {
+    for shape in shapes {
+        write_filled(writer, shape.text, &shape.values)?;
+    }
+    Ok(())
 }
 
-/// Writes a ring of this class around a point.
-pub(crate) fn write_ring<W: Write>(
-    writer: &mut W,
-    class: &str,
-    center: Point,
-    radius: u32,
-) -> io::Result<()> {
-    let (x, y) = (center.x, center.y);
-    write!(
-        writer,
-        "<circle class=\"{class}\" cx=\"{x}\" cy=\"{y}\" r=\"{radius}\"/>\n"
-    )
+/// A line of this class.
+pub(crate) fn line(class: &'static str, from: Point, to: Point) -> Shape<'static> {
+    let class = Value::Words(class.as_bytes());
+    let (x1, y1) = (Value::Number(from.x), Value::Number(from.y));
+    let (x2, y2) = (Value::Number(to.x), Value::Number(to.y));
+    Shape {
+        text: LINE,
+        values: [class, x1, y1, x2, y2, NONE],
+    }
 }
 
-/// Writes a cross of this class over a point.
-pub(crate) fn write_cross<W: Write>(writer: &mut W, class: &str, center: Point) -> io::Result<()> {
-    let (x, y) = (center.x, center.y);
-    write!(
-        writer,
-        "<path class=\"{class}\" d=\"M{x} {y}m-5 -5l10 10m0 -10l-10 10\"/>\n"
-    )
+/// A box of this class, with its left upper corner at a point.
+pub(crate) fn bar(class: &'static str, corner: Point, width: u32, height: u32) -> Shape<'static> {
+    let class = Value::Words(class.as_bytes());
+    let (x, y) = (Value::Number(corner.x), Value::Number(corner.y));
+    let (width, height) = (Value::Number(width), Value::Number(height));
+    Shape {
+        text: BAR,
+        values: [class, x, y, width, height, NONE],
+    }
 }
 
-/// Writes a text of this class at a point.
-pub(crate) fn write_words<W: Write>(
-    writer: &mut W,
-    class: &str,
-    at: Point,
-    text: &[u8],
-) -> io::Result<()> {
-    let (x, y) = (at.x, at.y);
-    write!(writer, "<text class=\"{class}\" x=\"{x}\" y=\"{y}\">")?;
-    write_escaped(writer, text)?;
-    writer.write_all(b"</text>\n")
+/// A ring of this class around a point.
+pub(crate) fn ring(class: &'static str, center: Point, radius: u32) -> Shape<'static> {
+    let class = Value::Words(class.as_bytes());
+    let (x, y) = (Value::Number(center.x), Value::Number(center.y));
+    Shape {
+        text: RING,
+        values: [class, x, y, Value::Number(radius), NONE, NONE],
+    }
 }
 
-/// Writes a text of this class at a point, in this size or in a smaller one for which there is room.
-pub(crate) fn write_fitted<W: Write>(
-    writer: &mut W,
-    class: &str,
-    at: Point,
-    text: &[u8],
-    fit: Fit,
-) -> io::Result<()> {
-    let (x, y) = (at.x, at.y);
+/// A cross of this class over a point.
+pub(crate) fn cross(class: &'static str, center: Point) -> Shape<'static> {
+    words_in(CROSS, class, center, NONE)
+}
+
+/// A text of this class at a point.
+pub(crate) fn words<'a>(class: &'static str, at: Point, text: Value<'a>) -> Shape<'a> {
+    words_in(WORDS, class, at, text)
+}
+
+fn words_in<'a>(shape: &'static str, class: &'static str, at: Point, text: Value<'a>) -> Shape<'a> {
+    let class = Value::Words(class.as_bytes());
+    let (x, y) = (Value::Number(at.x), Value::Number(at.y));
+    Shape {
+        text: shape,
+        values: [class, x, y, text, NONE, NONE],
+    }
+}
+
+/// A text of this class at a point, in this size or in a smaller one for which there is room.
+pub(crate) fn fitted<'a>(class: &'static str, at: Point, text: &'a [u8], fit: Fit) -> Shape<'a> {
+    let class = Value::Words(class.as_bytes());
+    let (x, y) = (Value::Number(at.x), Value::Number(at.y));
     let size = size_in(width_of(text), fit.room, fit.size);
-    write!(
-        writer,
-        "<text class=\"{class}\" x=\"{x}\" y=\"{y}\" font-size=\"{size}\">"
-    )?;
-    write_escaped(writer, text)?;
-    writer.write_all(b"</text>\n")
+    Shape {
+        text: FITTED,
+        values: [class, x, y, Value::Number(size), Value::Outside(text), NONE],
+    }
 }

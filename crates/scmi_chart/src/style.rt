@@ -1,6 +1,6 @@
 //! What is the same in each picture.
 
-/// Colours, fonts and the heads of arrows.
+/// Colours, fonts, the heads of arrows, and the paper.
 pub(crate) const STYLE: &str = "\
 <style>\n\
 svg{fill:#1b2733;font:12px Inter,'Helvetica Neue','DejaVu Sans',sans-serif}\n\
@@ -176,4 +176,5 @@ svg{fill:#e3e9ef}\n\
 <marker id=\"note\" viewBox=\"0 0 10 10\" refX=\"9\" refY=\"5\" markerWidth=\"8\" markerHeight=\"8\" markerUnits=\"userSpaceOnUse\" orient=\"auto\"><path d=\"M0 0.8L10 5L0 9.2z\" fill=\"#7a3fb0\" stroke=\"none\"/></marker>\n\
 <pattern id=\"hatch\" width=\"6\" height=\"6\" patternUnits=\"userSpaceOnUse\" patternTransform=\"rotate(45)\"><rect width=\"6\" height=\"6\" fill=\"#fff6df\"/><line x1=\"0\" y1=\"0\" x2=\"0\" y2=\"6\" stroke=\"#b7791f\" stroke-width=\"2.4\"/></pattern>\n\
 </defs>\n\
+<rect class=\"paper\" width=\"100%\" height=\"100%\"/>\n\
 ";

@@ -8,7 +8,6 @@ ghost use Rattle.scmi_text.specs.Step.{IsStepOf};
 ghost use Rattle.scmi_chart.specs.Run.{ShowsRun};
 ghost use Rattle.scmi_chart.specs.Threads.{HasScripts, ShowsScripts, ShowsThreads};
 
-use crate::any_mode::threads_line;
 use crate::chart::Chart;
 use crate::history::steps_of_run;
 use crate::record_step::record_step;
@@ -16,7 +15,7 @@ use crate::recorder::Recorder;
 use crate::run::{STEPS, plural, title_of};
 use scmi_board::{Lines, TextLine, read_board};
 use scmi_link::{Channel, RingChannel};
-use scmi_modes::{Kind, RunError, Session};
+use scmi_modes::{Kind, RunError, Session, THREADS_RINGS, THREADS_WORDS};
 use scmi_plan::{Plan, RawPlan};
 use scmi_text::{PlainStep, Step, read_scripts};
 use scmi_threads::{AgentLog, Gate, Outcome, Script, Stop, run_agents};
@@ -101,7 +100,10 @@ fn lacked_room(logs: &[AgentLog]) -> bool {
 
 /// The line below the title of a run with this many events.
 fn subtitle_of(alloc: Global, kind: Kind, events: usize) -> Result<Vec<u8>, AllocError> {
-    let mode = threads_line(kind);
+    let mode = match kind {
+        Kind::Rings => THREADS_RINGS,
+        Kind::Words => THREADS_WORDS,
+    };
     let them = if events == 1 { "it" } else { "them" };
     let text = format!(in alloc;
         "{mode}, {events} event{}, as the platform executed {them}",

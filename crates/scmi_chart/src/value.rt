@@ -5,7 +5,9 @@ ghost use Rattle.scmi_io.specs.Filled.{filled};
 ghost use Rattle.scmi_chart.specs.Value.{value_text};
 ghost use Rattle.scmi_chart.specs.Words.{hex_text};
 
+use crate::escape::write_escaped;
 use crate::label_texts::HEX;
+use crate::rate::write_rate;
 use scmi_io::{Piece, write_filled};
 use std::alloc::{AllocError, Global};
 use std::io;
@@ -20,7 +22,11 @@ pub(crate) enum Value<'a> {
     Count(usize),
     /// A number, hexadecimal.
     Hex(u32),
+    /// A rate in Hz.
+    Rate(u64),
     Words(&'a [u8]),
+    /// A text from outside, in a picture.
+    Outside(&'a [u8]),
 }
 
 impl<'a> Piece for Value<'a> {
@@ -31,7 +37,9 @@ impl<'a> Piece for Value<'a> {
             Value::Number(number) => write!(writer, "{number}"),
             Value::Count(count) => write!(writer, "{count}"),
             Value::Hex(number) => write_hex(writer, number),
+            Value::Rate(hertz) => write_rate(writer, hertz),
             Value::Words(words) => writer.write_all(words),
+            Value::Outside(text) => write_escaped(writer, text),
         }
     }
 }

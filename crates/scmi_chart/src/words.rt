@@ -2,8 +2,7 @@
 ghost use Rattle.std.specs.Prelude.{◌≡◌, ◌++◌, IfOk, OnOk};
 ghost use Rattle.scmi_chart.specs.Words.{hex_text, spaced_text, words_text};
 
-use crate::label_texts::{DISABLED, ENABLED, HEX, MORE, OFF, ON, SPACE};
-use crate::rate::write_rate;
+use crate::label_texts::{DISABLED, ENABLED, HEX, MORE, OFF, ON, SPACE, VALUE};
 use crate::value::{Value, filled_words};
 use std::alloc::{AllocError, Global};
 
@@ -38,11 +37,7 @@ pub(crate) fn numbered_words(
 
 /// A rate, as columns have it.
 pub(crate) fn rate_words(alloc: Global, hertz: u64) -> Result<Vec<u8>, AllocError> {
-    let mut words = Vec::new(alloc);
-    match write_rate(&mut words, hertz) {
-        Ok(()) => Ok(words),
-        Err(_) => Err(AllocError),
-    }
+    filled_words(alloc, VALUE, &[Value::Rate(hertz)])
 }
 
 /// The most payload words that are shown beside an arrow.
