@@ -11,7 +11,7 @@ use Rattle.scmi.specs.TableRun.{HoldsBoard}
 use Rattle.scmi.specs.Given.{OfGiven}
 use Rattle.scmi.specs.declared.request.Request.{Request}
 use Rattle.scmi.specs.declared.request.Request.TheVariants.{Do, Dumps, Bytes, Diagram}
-use Rattle.scmi.specs.declared.task.Task.TheVariants.{Run, Decode, Session, Check, Table}
+use Rattle.scmi.specs.declared.request.Task.TheVariants.{Run, Decode, Session, Check, Table}
 
 -- an input has an area, if it is known
 abbrev pub HasArea : Layout → Option (List ℕ) → Type 0

@@ -4,9 +4,8 @@ use crate::command::{
     BINARY, FIRST, HELP, JSON, MERMAID, OFFSET, PROTOCOLS, REFUSALS, RESTARTS, SAVE, SECOND, SIZE,
     STRIDE, TAP, VERSION,
 };
-use crate::form::task_of;
-use crate::request::Request;
-use crate::task::Task;
+use crate::forms::task_of;
+use crate::request::{Request, Task};
 use clap::ArgMatches;
 use clap::parser::ValueSource;
 use scmi_board::number;
@@ -49,68 +48,74 @@ pub enum Unread<'a> {
 
 /// What the matches of a command line ask for.
 pub fn asked_of<'a>(matches: &ArgMatches<'a>) -> Result<Asked<'a>, Unread<'a>> {
+    let task = task_by_flags(matches);
+    match matches.subcommand() {
+        Some((word, inner)) if matches!(task, Task::Run) => asked_below(word, inner),
+        _ => Ok(with_no_file(Request::Do(task))),
+    }
+}
+
+/// What the flags before the word of a task ask for: a run if there are none.
+fn task_by_flags(matches: &ArgMatches<'_>) -> Task {
     if is_used(matches, HELP) {
-        return Ok(with_no_file(Request::Do(Task::Help)));
+        Task::Help
+    } else if is_used(matches, VERSION) {
+        Task::Version
+    } else {
+        Task::Run
     }
-    if is_used(matches, VERSION) {
-        return Ok(with_no_file(Request::Do(Task::Version)));
-    }
-    let Some((word, inner)) = below(matches) else {
-        return Ok(with_no_file(Request::Do(Task::Run)));
-    };
+}
+
+/// What the word of a task and the matches after it ask for.
+fn asked_below<'a>(word: &'a str, matches: &ArgMatches<'a>) -> Result<Asked<'a>, Unread<'a>> {
     match task_of(word) {
-        Some(Task::Help) => help_by(inner),
-        Some(task) => task_by(task, inner),
+        Some(Task::Help) => Ok(with_no_file(help_by(matches)?)),
+        Some(task) if is_used(matches, HELP) => Ok(with_no_file(Request::HelpOn(task))),
+        Some(task) => task_by(task, matches),
         None => Err(Unread::Task(word)),
     }
 }
 
 /// What the matches after the word for help ask for.
-fn help_by<'a>(matches: &ArgMatches<'a>) -> Result<Asked<'a>, Unread<'a>> {
+fn help_by<'a>(matches: &ArgMatches<'a>) -> Result<Request, Unread<'a>> {
     if is_used(matches, HELP) {
-        return Ok(with_no_file(Request::HelpOn(Task::Help)));
+        return Ok(Request::HelpOn(Task::Help));
     }
     match value_of(matches, FIRST) {
-        None => Ok(with_no_file(Request::Do(Task::Help))),
+        None => Ok(Request::Do(Task::Help)),
         Some(word) => match task_of(word) {
-            Some(task) => Ok(with_no_file(Request::HelpOn(task))),
+            Some(task) => Ok(Request::HelpOn(task)),
             None => Err(Unread::Task(word)),
         },
     }
 }
 
-/// What the matches after the word of a task ask for.
+/// What the matches after the word of a task ask for, if that is not its help.
 fn task_by<'a>(task: Task, matches: &ArgMatches<'a>) -> Result<Asked<'a>, Unread<'a>> {
-    if is_used(matches, HELP) {
-        return Ok(with_no_file(Request::HelpOn(task)));
-    }
-    let style = style_by(matches);
     let first = value_of(matches, FIRST);
     let second = value_of(matches, SECOND);
     let save = value_of(matches, SAVE);
-    if is_no_file(first) {
-        return Err(Unread::Dash(first.unwrap_or("")));
+    if let Some(name) = no_file(first, second, save) {
+        return Err(Unread::Dash(name));
     }
-    if is_no_file(second) {
-        return Err(Unread::Dash(second.unwrap_or("")));
-    }
-    if is_no_file(save) || is_standard(save) {
-        return Err(Unread::Dash(save.unwrap_or("")));
-    }
-    let request = match task {
-        Task::Decode => decode_by(matches)?,
-        _ if is_used(matches, MERMAID) => Request::Diagram,
-        _ => Request::Do(task),
-    };
     Ok(Asked {
-        request,
-        style,
+        request: request_by(task, matches)?,
+        style: style_by(matches),
         protocols: value_of(matches, PROTOCOLS),
         unseen: unseen_by(matches),
         first,
         second,
         save,
     })
+}
+
+/// The request of a task.
+fn request_by<'a>(task: Task, matches: &ArgMatches<'a>) -> Result<Request, Unread<'a>> {
+    match task {
+        Task::Decode => decode_by(matches),
+        _ if is_used(matches, MERMAID) => Ok(Request::Diagram),
+        _ => Ok(Request::Do(task)),
+    }
 }
 
 /// The form of a report of check.
@@ -126,18 +131,14 @@ fn style_by(matches: &ArgMatches<'_>) -> Style {
 
 /// What may have happened behind a record that no entry shows.
 fn unseen_by(matches: &ArgMatches<'_>) -> Unseen {
-    Unseen {
-        refusals: refusals_by(matches),
-        restarts: is_used(matches, RESTARTS),
-    }
-}
-
-/// Which changes the hardware behind a record may have refused.
-fn refusals_by(matches: &ArgMatches<'_>) -> Refusals {
-    if is_used(matches, REFUSALS) {
+    let refusals = if is_used(matches, REFUSALS) {
         Refusals::Answered
     } else {
         Refusals::None
+    };
+    Unseen {
+        refusals,
+        restarts: is_used(matches, RESTARTS),
     }
 }
 
@@ -185,19 +186,18 @@ fn with_no_file<'a>(request: Request) -> Asked<'a> {
     }
 }
 
-/// Whether there is a name that begins with a dash, as no file's name may but that of standard input.
-fn is_no_file(name: Option<&str>) -> bool {
-    match name {
-        Some(name) => name != STANDARD && begins_with_dash(name),
-        None => false,
-    }
-}
-
-/// Whether there is a name that is that of standard input.
-fn is_standard(name: Option<&str>) -> bool {
-    match name {
-        Some(name) => name == STANDARD,
-        None => false,
+/// The first of the names that begins with a dash, as no file's name may but that of standard input,
+/// into which no session is saved.
+fn no_file<'a>(
+    first: Option<&'a str>,
+    second: Option<&'a str>,
+    save: Option<&'a str>,
+) -> Option<&'a str> {
+    match (first, second, save) {
+        (Some(name), _, _) if name != STANDARD && begins_with_dash(name) => Some(name),
+        (_, Some(name), _) if name != STANDARD && begins_with_dash(name) => Some(name),
+        (_, _, Some(name)) if begins_with_dash(name) => Some(name),
+        _ => None,
     }
 }
 
@@ -209,19 +209,9 @@ pub(crate) fn begins_with_dash(word: &str) -> bool {
     }
 }
 
-/// The subcommand that was found, and what was found after its word.
-fn below<'m, 'a>(matches: &'m ArgMatches<'a>) -> Option<(&'a str, &'m ArgMatches<'a>)> {
-    matches.subcommand()
-}
-
 /// Whether a flag was used.
 fn is_used(matches: &ArgMatches<'_>, name: &str) -> bool {
-    matches!(source_of(matches, name), Some(ValueSource::CommandLine))
-}
-
-/// Where what was found under a name comes from.
-fn source_of(matches: &ArgMatches<'_>, name: &str) -> Option<ValueSource> {
-    matches.value_source(name)
+    matches!(matches.value_source(name), Some(ValueSource::CommandLine))
 }
 
 /// The word that was found under a name.

@@ -1,38 +1,30 @@
 //! The command line, as clap reads it.
 
-use crate::form::{Form, Operands};
-use crate::forms::FORMS;
+use crate::forms::{Form, Operand, forms};
 use clap::{Arg, ArgAction, Command};
 use std::alloc::{AllocError, Global};
 
 /// The program's name.
 pub const NAME: &str = "scmi";
 
-/// The flag that asks for help.
+/// The names of flags and options. `BINARY` asks to read an input as bytes, and `OFFSET`, `SIZE` and
+/// `STRIDE` say which of a dump's bytes are areas; `SAVE` names the file into which a session is saved.
 pub const HELP: &str = "help";
 
-/// The flag that asks which program this is.
 pub const VERSION: &str = "version";
 
-/// The flags that ask for a report as JSON, or of the Test Anything Protocol.
 pub const JSON: &str = "json";
 
 pub const TAP: &str = "tap";
 
-/// The option that names the protocols that are judged in a record.
 pub const PROTOCOLS: &str = "protocols";
 
-/// The flag that says that the hardware behind a record may have refused changes.
 pub const REFUSALS: &str = "refusals";
 
-/// The flag that says that agents may have restarted anywhere in a record.
 pub const RESTARTS: &str = "restarts";
 
-/// The flag that asks for a diagram in the text of Mermaid.
 pub const MERMAID: &str = "mermaid";
 
-/// The flag that asks to read an input as bytes, and the options that say which of a dump's bytes are
-/// areas.
 pub const BINARY: &str = "binary";
 
 pub const OFFSET: &str = "offset";
@@ -41,82 +33,64 @@ pub const SIZE: &str = "size";
 
 pub const STRIDE: &str = "stride";
 
-/// The option that names the file into which a session is saved.
 pub const SAVE: &str = "save";
 
-/// The name of the first word after a task; `SECOND` is that of the second.
+/// The names of the words after a task.
 pub const FIRST: &str = "first";
 
 pub const SECOND: &str = "second";
+
+const HELP_FLAG: Operand = Operand::Letter(HELP, 'h');
 
 /// The program's command, whose words are those after its name.
 ///
 /// Its flags for help and the version are declared as any flag: clap's own end in an error, whose
 /// text no contract states.
 pub fn program<'a>(alloc: Global) -> Result<Command<'a>, AllocError> {
-    let mut command = bare(alloc)?;
-    for form in &FORMS {
+    let flags = [HELP_FLAG, Operand::Letter(VERSION, 'V')];
+    let mut command = with_operands(alloc, bare(alloc), &flags)?;
+    for form in forms() {
         command = command.subcommand(task_command(alloc, form)?)?;
     }
     Ok(command)
 }
 
-/// The command without its tasks.
-fn bare<'a>(alloc: Global) -> Result<Command<'a>, AllocError> {
-    let command = Command::new(alloc, NAME)
+/// The command without its flags and its tasks.
+fn bare<'a>(alloc: Global) -> Command<'a> {
+    Command::new(alloc, NAME)
         .no_binary_name(true)
         .disable_help_flag(true)
         .disable_help_subcommand(true)
-        .subcommand_value_name("COMMAND");
-    let version = flag(alloc, VERSION).short('V');
-    command.arg(help(alloc))?.arg(version)
+        .subcommand_value_name("COMMAND")
 }
 
 /// The subcommand of a task.
 fn task_command<'a>(alloc: Global, form: &Form) -> Result<Command<'a>, AllocError> {
-    let command = named(alloc, form.word, form.usage)?;
-    match form.operands {
-        Operands::Input | Operands::Topic => command.arg(Arg::new(alloc, FIRST)),
-        Operands::Dumps => command
-            .arg(flag(alloc, BINARY).short('b'))?
-            .arg(option(alloc, OFFSET, "N"))?
-            .arg(option(alloc, SIZE, "N"))?
-            .arg(option(alloc, STRIDE, "N"))?
-            .arg(Arg::new(alloc, FIRST)),
-        Operands::Board => command
-            .arg(option(alloc, SAVE, "FILE"))?
-            .arg(Arg::new(alloc, FIRST)),
-        Operands::Drawn => command
-            .arg(flag(alloc, MERMAID))?
-            .arg(Arg::new(alloc, FIRST))?
-            .arg(Arg::new(alloc, SECOND)),
-        Operands::BoardAndRecord => command
-            .arg(flag(alloc, TAP))?
-            .arg(flag(alloc, JSON))?
-            .arg(option(alloc, PROTOCOLS, "LIST"))?
-            .arg(flag(alloc, REFUSALS))?
-            .arg(flag(alloc, RESTARTS))?
-            .arg(Arg::new(alloc, FIRST))?
-            .arg(Arg::new(alloc, SECOND)),
-        Operands::None => Ok(command),
+    let command = Command::new(alloc, form.word).override_usage(form.usage);
+    let command = with_operands(alloc, command, &[HELP_FLAG])?;
+    with_operands(alloc, command, form.operands)
+}
+
+/// A command after which these may follow.
+fn with_operands<'a>(
+    alloc: Global,
+    mut command: Command<'a>,
+    operands: &[Operand],
+) -> Result<Command<'a>, AllocError> {
+    for operand in operands {
+        command = command.arg(operand_arg(alloc, *operand))?;
     }
+    Ok(command)
 }
 
-/// A subcommand of this name, with the flag for help.
-fn named<'a>(alloc: Global, name: &'a str, usage: &'a str) -> Result<Command<'a>, AllocError> {
-    Command::new(alloc, name)
-        .override_usage(usage)
-        .arg(help(alloc))
-}
-
-/// The flag `--help`, or `-h`.
-fn help<'a>(alloc: Global) -> Arg<'a> {
-    flag(alloc, HELP).short('h')
-}
-
-/// An option of this name, with a value, which usage calls so.
-fn option<'a>(alloc: Global, name: &'a str, value: &'a str) -> Arg<'a> {
-    Arg::new(alloc, name).long(name).value_name(value)
+/// What may follow a command's word, as clap reads it.
+fn operand_arg<'a>(alloc: Global, operand: Operand) -> Arg<'a> {
+    match operand {
+        Operand::Word(name) => Arg::new(alloc, name),
+        Operand::Value(name, value) => Arg::new(alloc, name).long(name).value_name(value),
+        Operand::Flag(name) => flag(alloc, name),
+        Operand::Letter(name, letter) => flag(alloc, name).short(letter),
+    }
 }
 
 /// A flag of this name.

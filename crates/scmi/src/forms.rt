@@ -1,14 +1,47 @@
-//! The table of the program's tasks.
+//! How each task is asked for.
 
-use crate::form::{Form, Operands};
-use crate::task::Task;
+use crate::command::{
+    BINARY, FIRST, JSON, MERMAID, OFFSET, PROTOCOLS, REFUSALS, RESTARTS, SAVE, SECOND, SIZE,
+    STRIDE, TAP,
+};
+use crate::request::Task;
+
+/// What may follow a task's word.
+#[derive(Clone, Copy)]
+pub enum Operand {
+    /// A word, such as the name of a file.
+    Word(&'static str),
+    /// An option, and what usage calls its value.
+    Value(&'static str, &'static str),
+    Flag(&'static str),
+    /// A flag that has a letter too.
+    Letter(&'static str, char),
+}
+
+/// How a task is asked for, and what help shows of it.
+#[derive(Clone, Copy)]
+pub struct Form {
+    pub task: Task,
+    /// The word that asks for it.
+    pub word: &'static str,
+    pub operands: &'static [Operand],
+    /// The words of the command line.
+    pub usage: &'static str,
+    /// What it does, in the list of all tasks.
+    pub summary: &'static str,
+    /// What it does, at the head of its own help.
+    pub about: &'static str,
+    /// What else there is to know of it.
+    pub details: &'static str,
+    pub example: &'static str,
+}
 
 /// How each task is asked for, in the order of the enum.
-pub const FORMS: [Form; 8] = [
+const FORMS: [Form; 8] = [
     Form {
         task: Task::Run,
         word: "run",
-        operands: Operands::Input,
+        operands: &[Operand::Word(FIRST)],
         usage: "scmi run [FILE]",
         summary: "runs a script (the default command)",
         about: "Runs a script of a platform and its agents, and prints a line for each step.",
@@ -21,7 +54,13 @@ as in a session. docs/SCRIPTS.md has all lines. scmi alone, and scmi -, run stan
     Form {
         task: Task::Decode,
         word: "decode",
-        operands: Operands::Dumps,
+        operands: &[
+            Operand::Letter(BINARY, 'b'),
+            Operand::Value(OFFSET, "N"),
+            Operand::Value(SIZE, "N"),
+            Operand::Value(STRIDE, "N"),
+            Operand::Word(FIRST),
+        ],
         usage: "scmi decode [-b] [--offset N] [--size N] [--stride N] [FILE]",
         summary: "decodes dumps of shared memory",
         about: "\
@@ -38,7 +77,11 @@ bytes, and --offset N begins at byte N of each dump; N is decimal, or hexadecima
     Form {
         task: Task::Chart,
         word: "chart",
-        operands: Operands::Drawn,
+        operands: &[
+            Operand::Flag(MERMAID),
+            Operand::Word(FIRST),
+            Operand::Word(SECOND),
+        ],
         usage: "scmi chart [--mermaid] [FILE | BOARD RECORD]",
         summary: "draws a script's run, or a record, as a picture (SVG) or a Mermaid diagram",
         about: "Draws a script's run, or the messages of a record, as a sequence chart.",
@@ -55,7 +98,7 @@ GitHub and most editors draw.",
     Form {
         task: Task::Session,
         word: "session",
-        operands: Operands::Board,
+        operands: &[Operand::Value(SAVE, "FILE"), Operand::Word(FIRST)],
         usage: "scmi session [--save FILE] BOARD",
         summary: "an interactive platform: type steps, see replies",
         about: "\
@@ -77,7 +120,15 @@ adds line editing and history. docs/SCRIPTS.md has more.",
     Form {
         task: Task::Check,
         word: "check",
-        operands: Operands::BoardAndRecord,
+        operands: &[
+            Operand::Flag(TAP),
+            Operand::Flag(JSON),
+            Operand::Value(PROTOCOLS, "LIST"),
+            Operand::Flag(REFUSALS),
+            Operand::Flag(RESTARTS),
+            Operand::Word(FIRST),
+            Operand::Word(SECOND),
+        ],
         usage: "\
 scmi check [--tap] [--json] [--protocols LIST] [--refusals] [--restarts] BOARD [RECORD]",
         summary: "checks a record of another platform's replies against SCMI",
@@ -110,7 +161,7 @@ the record, 2 if there is nothing to check.",
     Form {
         task: Task::Table,
         word: "table",
-        operands: Operands::Input,
+        operands: &[Operand::Word(FIRST)],
         usage: "scmi table [BOARD]",
         summary: "prints a board as tables in C, for the library for firmware",
         about: "\
@@ -124,7 +175,7 @@ scmi_platform_new_of_tables. docs/C.md has more.",
     Form {
         task: Task::Help,
         word: "help",
-        operands: Operands::Topic,
+        operands: &[Operand::Word(FIRST)],
         usage: "scmi help [COMMAND]",
         summary: "prints the help of a command, as scmi COMMAND --help does",
         about: "Prints the help of a command; without one, the list of commands.",
@@ -136,7 +187,7 @@ after a command, and the list of commands without one.",
     Form {
         task: Task::Version,
         word: "version",
-        operands: Operands::None,
+        operands: &[],
         usage: "scmi version",
         summary: "prints the version, as scmi --version does",
         about: "Prints the version of this program, and the specification that it follows.",
@@ -145,3 +196,24 @@ after a command, and the list of commands without one.",
         example: "scmi version",
     },
 ];
+
+/// How each task is asked for. The table is named here alone, since each function that names a
+/// constant has it whole in its proof.
+pub fn forms() -> &'static [Form; 8] {
+    &FORMS
+}
+
+/// How a task is asked for.
+pub fn form_of(task: Task) -> &'static Form {
+    &forms()[task as usize]
+}
+
+/// The task whose word is exactly this one.
+pub fn task_of(word: &str) -> Option<Task> {
+    for form in forms() {
+        if form.word == word {
+            return Some(form.task);
+        }
+    }
+    None
+}

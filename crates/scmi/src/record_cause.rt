@@ -2,9 +2,10 @@
 
 use crate::refusal::BOARD_START;
 use scmi_board::{Lines, number};
-use scmi_check::{NoteKind, read_record};
+use scmi_check::{Note, NoteKind, read_record};
 use scmi_explain::{MODES, split_first};
 use std::alloc::Global;
+use std::str::from_utf8;
 
 /// Why a line of a record is refused.
 #[derive(Clone, Copy)]
@@ -46,8 +47,18 @@ pub fn record_cause(alloc: Global, agents: u32, record: &[u8], line: u32) -> Rec
 
 /// Whether a text has a line of this number.
 fn has_line(text: &[u8], line: u32) -> bool {
-    let feeds = text.iter().filter(|byte| **byte == b'\n').count();
-    feeds >= line.saturating_sub(1) as usize
+    feeds_in(text) >= line.saturating_sub(1) as usize
+}
+
+/// How many line feeds a text has.
+fn feeds_in(text: &[u8]) -> usize {
+    let mut feeds = 0usize;
+    for byte in text {
+        if *byte == b'\n' {
+            feeds = feeds.saturating_add(1);
+        }
+    }
+    feeds
 }
 
 /// The same; `None` if the line has another form, or there is no memory to find more.
@@ -56,7 +67,7 @@ fn cause_in(alloc: Global, agents: u32, record: &[u8], line: u32) -> Option<Reco
     if text.starts_with(BOARD_START) {
         return Some(RecordCause::Board);
     }
-    if MODES.iter().any(|mode| mode.as_bytes() == text) {
+    if matches!(from_utf8(text), Ok(mode) if MODES.contains(&mode)) {
         return Some(RecordCause::Script);
     }
     let Some(agent) = agent_of(text) else {
@@ -76,7 +87,7 @@ fn cause_in(alloc: Global, agents: u32, record: &[u8], line: u32) -> Option<Reco
         let command = waiting_line(alloc, agents, before, record, agent)?;
         return Some(RecordCause::Waits { agent, command });
     }
-    let exchange = format!(in alloc; "raw {agent} 0\n{}", str::from_utf8(text).ok()?).ok()?;
+    let exchange = format!(in alloc; "raw {agent} 0\n{}", from_utf8(text).ok()?).ok()?;
     if is_read(alloc, agents, exchange.as_bytes()) {
         return Some(RecordCause::NoCommand { agent });
     }
@@ -90,12 +101,15 @@ pub(crate) fn line_of(record: &[u8], line: u32) -> &[u8] {
 
 /// Whether a line begins as one that posts.
 pub(crate) fn is_post(text: &[u8]) -> bool {
-    POSTS.iter().any(|word| first_item(text) == *word)
+    POSTS.contains(&split_item(text).0)
 }
 
-/// What is before the first space of a line.
-fn first_item(text: &[u8]) -> &[u8] {
-    text.split(|byte| *byte == b' ').next().unwrap_or(text)
+/// What is before the first space of a line, and what is behind it.
+fn split_item(text: &[u8]) -> (&[u8], &[u8]) {
+    match text.iter().position(|byte| *byte == b' ') {
+        Some(place) => (&text[..place], &text[place + 1..]),
+        None => (text, &[]),
+    }
 }
 
 /// What is before a line of a text, and the line.
@@ -110,25 +124,40 @@ fn parted(text: &[u8], line: u32) -> (&[u8], &[u8]) {
 
 /// The number of the agent that a line names, if it is one.
 fn agent_of(text: &[u8]) -> Option<u64> {
+    let (first, behind) = split_item(text);
     if is_event(text) {
-        for item in text.split(|byte| *byte == b' ') {
-            if let Some(instance) = item.strip_prefix(INSTANCE) {
-                return number(instance)?.checked_add(1);
-            }
+        instance_of(text)
+    } else if is_post(text) {
+        number(split_item(behind).0)
+    } else {
+        number(first)
+    }
+}
+
+/// The number of the agent whose instance an event has; 1 if it has none.
+fn instance_of(text: &[u8]) -> Option<u64> {
+    let mut rest = text;
+    for _ in 0..text.len() {
+        let (item, behind) = split_item(rest);
+        if let Some(instance) = item.strip_prefix(INSTANCE) {
+            return number(instance)?.checked_add(1);
         }
-        return Some(1);
+        rest = behind;
     }
-    if !is_post(text) {
-        return number(first_item(text));
-    }
-    let mut items = text.split(|byte| *byte == b' ');
-    let _ = items.next()?;
-    number(items.next()?)
+    Some(1)
 }
 
 /// Whether a line has the event of a trace that shows a message.
 fn is_event(text: &[u8]) -> bool {
-    text.split(|byte| *byte == b' ').any(|item| item == EVENT)
+    let mut rest = text;
+    for _ in 0..text.len() {
+        let (item, behind) = split_item(rest);
+        if item == EVENT {
+            return true;
+        }
+        rest = behind;
+    }
+    false
 }
 
 /// Whether a text is a record.
@@ -150,9 +179,14 @@ fn waiting_line(
         all.push(protocol).ok()?;
     }
     let read = read_record(alloc, &mut Lines::of_text(before), agents, &all).ok()?;
-    for note in &read.left.notes {
+    waiting_in(&read.left.notes, record, agent)
+}
+
+/// The line of the first of these notes that is of such a command.
+fn waiting_in(notes: &[Note], record: &[u8], agent: u64) -> Option<u32> {
+    for note in notes {
         let command = line_of(record, note.line);
-        let is_waiting = note.kind == NoteKind::Unanswered && !is_event(command);
+        let is_waiting = matches!(note.kind, NoteKind::Unanswered) && !is_event(command);
         if is_waiting && agent_of(command) == Some(agent) {
             return Some(note.line);
         }

@@ -1,9 +1,8 @@
 //! What is reported of arguments that are refused, and of files that can't be opened.
 
 use crate::asked::{STANDARD, Unread, begins_with_dash};
-use crate::form::form_of;
-use crate::forms::FORMS;
-use crate::task::Task;
+use crate::forms::{form_of, forms};
+use crate::request::Task;
 use clap::Error as ClapError;
 use clap::error::ErrorKind;
 use scmi_codec::{AREA_BYTES, LEAST_AREA_BYTES};
@@ -52,12 +51,7 @@ fn first_word(words: &[String]) -> &str {
 /// Reports on standard error why arguments ask for nothing, and gives the exit status.
 pub fn refuse_unread(rt: &impl Eprint, alloc: Global, why: Unread<'_>) -> u8 {
     let _ = match why {
-        Unread::Task(word) => match nearest(alloc, &FORMS.map(|form| form.word), word) {
-            Some(near) => eprintln!(rt;
-                "scmi: no command named '{word}'; did you mean '{near}'? See scmi --help"
-            ),
-            None => eprintln!(rt; "scmi: no command named '{word}'; see scmi --help"),
-        },
+        Unread::Task(word) => return refuse_task(rt, alloc, word),
         Unread::Number(option, word) => eprintln!(rt;
             "scmi: --{option} needs a number of bytes, decimal or 0x..; found '{word}'"
         ),
@@ -75,6 +69,26 @@ pub fn refuse_unread(rt: &impl Eprint, alloc: Global, why: Unread<'_>) -> u8 {
         ),
     };
     WRONG_ARGUMENT
+}
+
+/// Reports on standard error that this is the word of no task, and gives the exit status.
+fn refuse_task(rt: &impl Eprint, alloc: Global, word: &str) -> u8 {
+    let _ = match near_command(alloc, word) {
+        Some(near) => eprintln!(rt;
+            "scmi: no command named '{word}'; did you mean '{near}'? See scmi --help"
+        ),
+        None => eprintln!(rt; "scmi: no command named '{word}'; see scmi --help"),
+    };
+    WRONG_ARGUMENT
+}
+
+/// The command whose word is near to this one.
+fn near_command(alloc: Global, word: &str) -> Option<&'static str> {
+    let mut words = Vec::new(alloc);
+    for form in forms() {
+        words.push(form.word).ok()?;
+    }
+    nearest(alloc, &words, word)
 }
 
 /// Reports on standard error that this task needs the file of its board, and gives the exit status.

@@ -8,10 +8,9 @@ ghost use Rattle.scmi.specs.Program.{Answers, AnswersOf};
 
 use crate::given::{in_numbers, is_hardware, with_end};
 use crate::refusal::WRONG_ARGUMENT;
-use crate::request::Request;
+use crate::request::{Request, Task};
 use crate::rest::Rest;
 use crate::table_run::run_table;
-use crate::task::Task;
 use crate::texts::write_text;
 use scmi_chart::{Form, run_draw};
 use scmi_decode::{Layout, Readings, run_bytes, run_decode};

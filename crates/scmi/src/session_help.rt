@@ -1,7 +1,7 @@
 //! What a session says when it is asked for help.
 
-use crate::unknown_text::Usage;
-use scmi_codec::{HeldProtocol, HeldRow, PROTOCOLS, Part};
+use crate::unknown_text::{Usage, named_at, protocols};
+use scmi_codec::{HeldProtocol, HeldRow, Part};
 use scmi_live::flags_of;
 use scmi_plan::RawPlan;
 use std::io::Eprint;
@@ -46,6 +46,10 @@ const ROWS: [HelpRow; 18] = rows![
     "quit" "" "ends the session";
 ];
 
+fn rows() -> &'static [HelpRow; 18] {
+    &ROWS
+}
+
 /// Words that items may be on every board, besides the names of flags.
 const WORDS: [&str; 12] = [
     "base", "power", "clock", "on", "off", "failed", "refused", "state", "rate", "enabled",
@@ -76,7 +80,7 @@ pub fn report_help(rt: &impl Eprint, board: &RawPlan, text: &[u8]) {
 
 /// Reports how each line is written.
 fn report_rows(rt: &impl Eprint) {
-    for row in &ROWS {
+    for row in rows() {
         report_row(rt, row);
     }
     let _ = eprintln!(rt;
@@ -99,7 +103,7 @@ fn report_row(rt: &impl Eprint, row: &HelpRow) {
 /// Reports what a word is that begins a line or names a message.
 fn report_topic(rt: &impl Eprint, topic: &str) {
     let mut is_there = report_line(rt, topic);
-    for protocol in &PROTOCOLS {
+    for protocol in &protocols() {
         is_there |= report_named(rt, protocol.messages, topic);
     }
     if !is_there {
@@ -110,7 +114,7 @@ fn report_topic(rt: &impl Eprint, topic: &str) {
 /// Reports how the line is written that begins with this word, if there is one: whether there is.
 fn report_line(rt: &impl Eprint, word: &str) -> bool {
     let mut is_there = false;
-    for row in &ROWS {
+    for row in rows() {
         if row.word == word {
             report_row(rt, row);
             is_there = true;
@@ -144,7 +148,7 @@ fn report_named(rt: &impl Eprint, rows: &[HeldRow], name: &str) -> bool {
 
 /// Reports how each message is written.
 fn report_messages(rt: &impl Eprint) {
-    for protocol in &PROTOCOLS {
+    for protocol in &protocols() {
         report_protocol(rt, protocol);
     }
 }
@@ -163,55 +167,59 @@ fn report_protocol(rt: &impl Eprint, protocol: &HeldProtocol) {
 
 /// Reports what the board has.
 fn report_board_names(rt: &impl Eprint, board: &RawPlan) {
-    for (place, name) in board.agents.iter().enumerate() {
-        let number = place.saturating_add(1);
-        let _ = eprintln!(rt; "agent {number} {name}");
-    }
-    for (number, domain) in board.domains.iter().enumerate() {
-        let name = domain.name.as_str();
-        let _ = eprintln!(rt; "domain {number} {name}");
-    }
-    for (number, clock) in board.clocks.iter().enumerate() {
-        let name = clock.name.as_str();
-        let _ = eprintln!(rt; "clock {number} {name}");
+    report_part(rt, board, Part::Agent, "agent");
+    report_part(rt, board, Part::Domain, "domain");
+    report_part(rt, board, Part::Clock, "clock");
+}
+
+/// Reports the names that a board has for a part: after this word and a number, or alone if there is
+/// no word.
+fn report_part(rt: &impl Eprint, board: &RawPlan, part: Part, word: &str) {
+    for place in 0..usize::MAX {
+        let Some((number, name)) = named_at(board, part, place) else {
+            return;
+        };
+        if word.is_empty() {
+            report_word(rt, name);
+        } else {
+            let _ = eprintln!(rt; "{word} {number} {name}");
+        }
     }
 }
 
 /// Reports each word that a line may have, for what completes words.
 fn report_all(rt: &impl Eprint, board: &RawPlan) {
-    for row in &ROWS {
-        let word = row.word;
-        let _ = eprintln!(rt; "{word}");
+    for row in rows() {
+        report_word(rt, row.word);
     }
-    for protocol in &PROTOCOLS {
+    for protocol in &protocols() {
         report_names(rt, protocol.messages);
     }
-    for name in &board.agents {
-        let _ = eprintln!(rt; "{name}");
-    }
-    for domain in &board.domains {
-        let name = domain.name.as_str();
-        let _ = eprintln!(rt; "{name}");
-    }
-    for clock in &board.clocks {
-        let name = clock.name.as_str();
-        let _ = eprintln!(rt; "{name}");
-    }
+    report_part(rt, board, Part::Agent, "");
+    report_part(rt, board, Part::Domain, "");
+    report_part(rt, board, Part::Clock, "");
     for word in &WORDS {
-        let _ = eprintln!(rt; "{word}");
+        report_word(rt, word);
     }
     for part in FLAGS {
-        for row in flags_of(part) {
-            let name = from_utf8(row.name).unwrap_or("");
-            let _ = eprintln!(rt; "{name}");
-        }
+        report_flags(rt, part);
     }
 }
 
 /// Reports the names of messages.
 fn report_names(rt: &impl Eprint, rows: &[HeldRow]) {
     for row in rows {
-        let name = row.name;
-        let _ = eprintln!(rt; "{name}");
+        report_word(rt, row.name);
     }
+}
+
+/// Reports the names of flags.
+fn report_flags(rt: &impl Eprint, part: Part) {
+    for row in flags_of(part) {
+        report_word(rt, from_utf8(row.name).unwrap_or(""));
+    }
+}
+
+fn report_word(rt: &impl Eprint, word: &str) {
+    let _ = eprintln!(rt; "{word}");
 }

@@ -1,10 +1,9 @@
 //! A board as a file in C.
 
-use crate::in_string::InString;
 use crate::table_rows::{
     rate_count, write_agents, write_clocks, write_devices, write_domains, write_rates,
 };
-use crate::table_said::protocols_of;
+use crate::table_said::{InString, protocols_of};
 use scmi_board::{BoardLine, BoardWithLines};
 use scmi_plan::RawPlan;
 use std::io;

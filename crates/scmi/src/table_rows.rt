@@ -1,12 +1,11 @@
 //! The tables of a board, a row a line. A table without rows is left out.
 
-use crate::in_string::InString;
-use crate::table_said::{channel_of, denied_to, is_absent, is_free, is_kept};
+use crate::table_said::{InString, channel_of, denied_to};
 use scmi_board::{BoardLine, BoardWithLines};
 use scmi_codec::{AREA_BYTES, PAYLOAD_WORDS};
 use scmi_plan::{Device, PENDING_SETS, Rates, RawClock, RawDomain, Resource, Scope};
-use std::io;
-use std::io::Write;
+use std::fmt;
+use std::io::{self, Write};
 
 /// The bytes of an area before its payload.
 const HEAD_BYTES: u64 = (AREA_BYTES - 4 * PAYLOAD_WORDS) as u64;
@@ -32,18 +31,15 @@ fn write_agent<W: Write>(
     let channel = channel_of(lines, agent);
     let bytes = HEAD_BYTES + 4 * u64::from(channel.words);
     let one_way = u8::from(channel.one_way);
-    let devices = denied_to(lines, agent, Scope::Device);
-    let power = denied_to(lines, agent, Scope::Power);
-    let clocks = denied_to(lines, agent, Scope::Clock);
+    let devices = Mask("denied", denied_to(lines, agent, Scope::Device));
+    let power = Mask("denied_power", denied_to(lines, agent, Scope::Power));
+    let clocks = Mask("denied_clocks", denied_to(lines, agent, Scope::Clock));
     write!(
         writer,
         "    {{ .name = \"{name}\", .bytes = {bytes}, .one_way = {one_way}"
     )?;
     write_share(writer, channel.share)?;
-    write_mask(writer, "denied", devices)?;
-    write_mask(writer, "denied_power", power)?;
-    write_mask(writer, "denied_clocks", clocks)?;
-    writeln!(writer, " }},")
+    writeln!(writer, "{devices}{power}{clocks} }},")
 }
 
 /// Writes how many of the pending sets may be an agent's, if they are not all of them.
@@ -54,40 +50,34 @@ fn write_share<W: Write>(writer: &mut W, share: u32) -> io::Result<()> {
     write!(writer, ", .pending = {share}")
 }
 
-/// Writes the devices of a mask, if it has any.
-fn write_mask<W: Write>(writer: &mut W, field: &str, devices: u32) -> io::Result<()> {
-    if devices == 0 {
-        return Ok(());
+/// A field with the devices of a mask; nothing if it has none.
+#[derive(Clone, Copy)]
+struct Mask(&'static str, u32);
+
+impl fmt::Display for Mask {
+    fn fmt<W: fmt::Write>(&self, f: &mut fmt::Formatter<W>) -> fmt::Result {
+        let Mask(field, devices) = *self;
+        if devices == 0 {
+            return Ok(());
+        }
+        write!(f, ", .{field} = 0x{devices:x}")
     }
-    write!(writer, ", .{field} = 0x{devices:x}")
 }
 
-/// Writes that no agent may switch a domain or clock off, if it is so.
-fn write_kept<W: Write>(writer: &mut W, lines: &[BoardLine], resource: Resource) -> io::Result<()> {
-    if !is_kept(lines, resource) {
-        return Ok(());
-    }
-    write!(writer, ", .kept = 1")
+/// Writes what lines of the board say of a domain or a clock, and the end of its row.
+fn write_said<W: Write>(writer: &mut W, lines: &[BoardLine], resource: Resource) -> io::Result<()> {
+    let kept = text_if(lines, BoardLine::Keep(resource), ", .kept = 1");
+    let absent = text_if(lines, BoardLine::Absent(resource), ", .absent = 1");
+    let free = match resource {
+        Resource::Clock(clock) => text_if(lines, BoardLine::Free(clock), ", .free = 1"),
+        Resource::Domain(_) => "",
+    };
+    writeln!(writer, "{kept}{absent}{free} }},")
 }
 
-/// Writes that a domain or clock is not there, if it is so.
-fn write_absent<W: Write>(
-    writer: &mut W,
-    lines: &[BoardLine],
-    resource: Resource,
-) -> io::Result<()> {
-    if !is_absent(lines, resource) {
-        return Ok(());
-    }
-    write!(writer, ", .absent = 1")
-}
-
-/// Writes that a clock takes each rate as it is asked for, if it is so.
-fn write_free<W: Write>(writer: &mut W, lines: &[BoardLine], clock: u32) -> io::Result<()> {
-    if !is_free(lines, clock) {
-        return Ok(());
-    }
-    write!(writer, ", .free = 1")
+/// A text, if the board has this line, or else none.
+fn text_if(lines: &[BoardLine], line: BoardLine, text: &'static str) -> &'static str {
+    if lines.contains(&line) { text } else { "" }
 }
 
 pub(crate) fn write_domains<W: Write>(writer: &mut W, said: &BoardWithLines) -> io::Result<()> {
@@ -100,9 +90,7 @@ pub(crate) fn write_domains<W: Write>(writer: &mut W, said: &BoardWithLines) -> 
     )?;
     for (number, domain) in (0..u32::MAX).zip(said.board.domains.iter()) {
         write_domain(writer, domain)?;
-        write_kept(writer, &said.lines, Resource::Domain(number))?;
-        write_absent(writer, &said.lines, Resource::Domain(number))?;
-        writeln!(writer, " }},")?;
+        write_said(writer, &said.lines, Resource::Domain(number))?;
     }
     write_end(writer)
 }
@@ -130,10 +118,7 @@ pub(crate) fn write_clocks<W: Write>(writer: &mut W, said: &BoardWithLines) -> i
     let mut first = 0usize;
     for (number, clock) in (0..u32::MAX).zip(said.board.clocks.iter()) {
         write_clock(writer, first, clock)?;
-        write_kept(writer, &said.lines, Resource::Clock(number))?;
-        write_absent(writer, &said.lines, Resource::Clock(number))?;
-        write_free(writer, &said.lines, number)?;
-        writeln!(writer, " }},")?;
+        write_said(writer, &said.lines, Resource::Clock(number))?;
         first = first.saturating_add(list_of(clock).len());
     }
     write_end(writer)

@@ -1,12 +1,14 @@
 //! The tables of a board, from its text to the exit status.
-ghost use Rattle.std.specs.Prelude.{◌≡◌, ◌≢◌, OnErr, OnOk};
-ghost use Rattle.scmi.specs.TableRun.{EndsWithFault, HoldsBoard};
+ghost use Rattle.std.specs.Prelude.{◌≡◌, ◌≢◌, IfErr, IfOk, IfSome, OnErr, OnOk};
+ghost use Rattle.scmi_board.specs.BoardLines.{described};
+ghost use Rattle.scmi_board.specs.ValidBoard.{IsBoardText};
+ghost use Rattle.scmi.specs.TableRun.{EndsWithFault, HoldsBoard, IsFaultOf};
 ghost use Rattle.scmi.specs.TableError.{status_of};
 
 use crate::table::write_table;
 use crate::table_error::TableError;
-use crate::table_read::read_board;
-use scmi_io::write_fault;
+use scmi_board::{BoardWithLines, read_valid_board};
+use scmi_io::{CountedReader, read_rest, write_fault};
 use std::alloc::Global;
 use std::io;
 use std::io::{Read, Write};
@@ -37,4 +39,23 @@ fn status_of_output(output: io::Result<()>) -> u8
         Ok(()) => 0,
         Err(_) => TableError::Write.status(),
     }
+}
+
+/// The board of a text, which keeps every rule, and the lines behind its rows.
+fn read_board<R: Read>(alloc: Global, reader: &mut R) -> Result<BoardWithLines, TableError>
+    ensures board { IfOk result (λ said. IfSome (R.remaining reader.old)
+        (λ text. IsBoardText text (described said))) }
+    ensures faults { IfErr result (λ e. IfSome (R.remaining reader.old)
+        (λ text. IsFaultOf text e)) }
+{
+    let text = read_rest(alloc, &mut CountedReader::new(reader))?;
+    board_of(alloc, &text)
+}
+
+fn board_of(alloc: Global, text: &[u8]) -> Result<BoardWithLines, TableError>
+    ensures board { IfOk result (λ said. IsBoardText text.now (described said)) }
+    ensures faults { IfErr result (IsFaultOf text.now) }
+{
+    let valid = read_valid_board(alloc, text)?;
+    Ok(valid.described)
 }

@@ -1,7 +1,8 @@
-//! What the lines behind a board's rows say of an agent, a domain or a clock.
+//! What the lines behind a board's rows say, and names in strings of C.
 
 use scmi_board::{BoardLine, ids_of};
-use scmi_plan::{AgentChannel, Resource, Scope, WHOLE_CHANNEL};
+use scmi_plan::{AgentChannel, Scope, WHOLE_CHANNEL};
+use std::fmt::{self, Write};
 
 /// The channels of an agent, by the line that contains them; whole if none does.
 pub(crate) fn channel_of(lines: &[BoardLine], agent: u32) -> AgentChannel {
@@ -40,17 +41,20 @@ pub(crate) fn protocols_of(lines: &[BoardLine]) -> Option<&[u8]> {
     found
 }
 
-/// Whether no agent may switch a domain or clock off.
-pub(crate) fn is_kept(lines: &[BoardLine], resource: Resource) -> bool {
-    lines.contains(&BoardLine::Keep(resource))
-}
+/// A name, as it is between the quotation marks of a string. A board that keeps the rules has
+/// printable ASCII in its names, so no other byte needs a mark.
+#[derive(Clone, Copy)]
+pub(crate) struct InString<'a>(pub(crate) &'a str);
 
-/// Whether a domain or a clock has a number and is not there.
-pub(crate) fn is_absent(lines: &[BoardLine], resource: Resource) -> bool {
-    lines.contains(&BoardLine::Absent(resource))
-}
-
-/// Whether a clock takes each rate as it is asked for.
-pub(crate) fn is_free(lines: &[BoardLine], clock: u32) -> bool {
-    lines.contains(&BoardLine::Free(clock))
+impl fmt::Display for InString<'_> {
+    fn fmt<W: fmt::Write>(&self, f: &mut fmt::Formatter<W>) -> fmt::Result {
+        for letter in self.0.chars() {
+            // Two question marks could begin a trigraph.
+            if matches!(letter, '"' | '\\' | '?') {
+                f.write_char('\\')?;
+            }
+            f.write_char(letter)?;
+        }
+        Ok(())
+    }
 }

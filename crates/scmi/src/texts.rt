@@ -1,30 +1,18 @@
 //! What the program shows of itself.
 
-use crate::form::{Form, form_of};
-use crate::forms::FORMS;
-use crate::request::Request;
-use crate::task::Task;
-use std::io;
-use std::io::Write;
+use crate::forms::{Form, form_of, forms};
+use crate::request::{Request, Task};
+use std::io::{self, Write};
 
-/// The texts that belong to no task.
-#[derive(Clone, Copy)]
-pub struct Texts {
-    /// How the program is used, before its tasks.
-    pub head: &'static str,
-    /// The same, after them.
-    pub tail: &'static str,
-    /// Which program this is.
-    pub version: &'static str,
-}
-
-pub const TEXTS: Texts = Texts {
-    head: "\
+/// How the program is used, before its tasks.
+const HEAD: &str = "\
 Both sides of Arm's System Control and Management Interface (SCMI, DEN0056B).
 
 Usage:
-",
-    tail: "
+";
+
+/// The same, after them.
+const TAIL: &str = "
 FILE is read, or standard input if it is - or missing; the result goes to standard output, and
 errors to standard error, with the line that is wrong, what is expected, and the likely mistake.
 On a terminal the words for what is wrong are red, unless the variable NO_COLOR is set.
@@ -32,25 +20,26 @@ Exit status: 0 success; 1 the output failed; 2 the input is rejected; 3 a limit 
 4 out of memory; 5 a record differs; 64 a wrong argument; 66 FILE can't be opened.
 
 Example: scmi run examples/two_agents.in
-",
-    version: "Tolbjir scmi 1.0.0: SCMI 2.0 (DEN0056B)\n",
-};
+";
+
+/// Which program this is.
+const VERSION: &str = "Tolbjir scmi 1.0.0: SCMI 2.0 (DEN0056B)\n";
 
 /// Writes the text that a request asks for; nothing if it asks for a task. The error is the
 /// writer's; some parts may then be written.
 pub fn write_text<W: Write>(writer: &mut W, request: Request) -> io::Result<()> {
     match request {
         Request::Do(Task::Help) => write_help(writer),
-        Request::Do(Task::Version) => write_fixed(writer, TEXTS.version),
-        Request::HelpOn(task) => write_form(writer, &form_of(task)),
+        Request::Do(Task::Version) => write_fixed(writer, VERSION),
+        Request::HelpOn(task) => write_form(writer, form_of(task)),
         Request::Do(_) | Request::Dumps(_) | Request::Bytes(_) | Request::Diagram => Ok(()),
     }
 }
 
 fn write_help<W: Write>(writer: &mut W) -> io::Result<()> {
-    write_fixed(writer, TEXTS.head)?;
-    write_rows(writer, &FORMS)?;
-    write_fixed(writer, TEXTS.tail)
+    write_fixed(writer, HEAD)?;
+    write_rows(writer, forms())?;
+    write_fixed(writer, TAIL)
 }
 
 fn write_fixed<W: Write>(writer: &mut W, text: &str) -> io::Result<()> {
@@ -73,18 +62,12 @@ fn write_row<W: Write>(writer: &mut W, form: &Form) -> io::Result<()> {
 
 /// Writes the help on a task.
 fn write_form<W: Write>(writer: &mut W, form: &Form) -> io::Result<()> {
-    write_usage(writer, form)?;
-    write_details(writer, form)
-}
-
-fn write_usage<W: Write>(writer: &mut W, form: &Form) -> io::Result<()> {
     let about = form.about;
     let usage = form.usage;
-    write!(writer, "{about}\n\nUsage: {usage}\n\n")
-}
-
-fn write_details<W: Write>(writer: &mut W, form: &Form) -> io::Result<()> {
     let details = form.details;
     let example = form.example;
-    write!(writer, "{details}\n\nExample: {example}\n")
+    write!(
+        writer,
+        "{about}\n\nUsage: {usage}\n\n{details}\n\nExample: {example}\n"
+    )
 }

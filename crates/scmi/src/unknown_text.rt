@@ -1,6 +1,6 @@
 //! Why a line with names encodes no step, in words.
 
-use scmi_codec::{BASE_MESSAGES, CLOCK_MESSAGES, POWER_MESSAGES, Part};
+use scmi_codec::{HeldProtocol, HeldRow, PROTOCOLS, Part};
 use scmi_explain::{HardwareStatuses, nearest};
 use scmi_live::{Unknown, flags_of};
 use scmi_plan::RawPlan;
@@ -20,60 +20,72 @@ impl fmt::Display for UnknownText<'_, '_> {
     fn fmt<W: fmt::Write>(&self, f: &mut fmt::Formatter<W>) -> fmt::Result {
         match self.unknown {
             Unknown::Agent(item) => write_part(f, self.board, 2, item, Part::Agent),
-            Unknown::Message(item) => {
-                write!(f, "unknown message or protocol \"{}\"", item_text(item))?;
-                match from_utf8(item)
-                    .ok()
-                    .and_then(|text| near_message(self.alloc, text))
-                {
-                    Some(name) => write!(f, "; did you mean {name}?"),
-                    None => f.write_str("; docs/PROTOCOL.md has the messages"),
-                }
+            Unknown::Message(item) => write_message(f, self.alloc, item),
+            Unknown::Shared(item) => write_item(
+                f,
+                "each protocol has a message ",
+                item,
+                "; write base, power or clock before it",
+            ),
+            Unknown::Elsewhere(message, own, asked) => write_elsewhere(f, message, own, asked),
+            Unknown::Nameless(protocol) => write_item(
+                f,
+                "the messages of protocol ",
+                protocol,
+                " have no names here; write the message as a number",
+            ),
+            Unknown::Part(number, item, part) => write_part(f, self.board, number, item, part),
+            Unknown::Status(item) => {
+                write_item(f, "field 3: \"", item, "\" is not ")?;
+                write!(f, "{HardwareStatuses}")
             }
-            Unknown::Shared(item) => write!(
-                f,
-                "each protocol has a message {}; write base, power or clock before it",
-                item_text(item)
-            ),
-            Unknown::Elsewhere(message, own, asked) => write!(
-                f,
-                "{} is a message of the {own} protocol, not of {}",
-                item_text(message),
-                item_text(asked)
-            ),
-            Unknown::Nameless(protocol) => write!(
-                f,
-                "the messages of protocol {} have no names here; write the message as a number",
-                item_text(protocol)
-            ),
-            Unknown::Part(number, item, part) => {
-                write_part(f, self.board, number, item, part)?;
-                write_flags(f, part)
+            Unknown::Unit(number, item) => {
+                write!(f, "field {number}: a unit follows its number")?;
+                write_item(f, " without a space, as in 600", item, "")
             }
-            Unknown::Status(item) => write!(
-                f,
-                "field 3: \"{}\" is not {HardwareStatuses}",
-                item_text(item)
-            ),
-            Unknown::Unit(number, item) => write!(
-                f,
-                "field {number}: a unit follows its number without a space, as in 600{}",
-                item_text(item)
-            ),
-            Unknown::Count(name, parts) => {
-                let usage = Usage { name, parts };
-                write!(f, "{usage}")
-            }
+            Unknown::Count(name, parts) => fmt::Display::fmt(&Usage { name, parts }, f),
         }
     }
 }
 
-fn item_text(item: &[u8]) -> &str {
-    from_utf8(item).unwrap_or("(not UTF-8)")
+/// Writes an item between two texts.
+fn write_item<W: fmt::Write>(
+    f: &mut fmt::Formatter<W>,
+    before: &str,
+    item: &[u8],
+    behind: &str,
+) -> fmt::Result {
+    let item = from_utf8(item).unwrap_or("(not UTF-8)");
+    write!(f, "{before}{item}{behind}")
 }
 
-/// Writes that the item of this number is not this part of a message, and which names the board has
-/// for the part.
+/// Writes that an item is no message and no protocol, and the message that it may mean.
+fn write_message<W: fmt::Write>(
+    f: &mut fmt::Formatter<W>,
+    alloc: Global,
+    item: &[u8],
+) -> fmt::Result {
+    write_item(f, "unknown message or protocol \"", item, "\"")?;
+    match near_message(alloc, from_utf8(item).unwrap_or("")) {
+        Some(name) => write!(f, "; did you mean {name}?"),
+        None => f.write_str("; docs/PROTOCOL.md has the messages"),
+    }
+}
+
+/// Writes that a message is of its own protocol, and not of the one that is asked for.
+fn write_elsewhere<W: fmt::Write>(
+    f: &mut fmt::Formatter<W>,
+    message: &[u8],
+    own: &str,
+    asked: &[u8],
+) -> fmt::Result {
+    write_item(f, "", message, " is a message of the ")?;
+    write!(f, "{own} protocol")?;
+    write_item(f, ", not of ", asked, "")
+}
+
+/// Writes that the item of this number is not this part of a message, and which names there are for
+/// the part.
 fn write_part<W: fmt::Write>(
     f: &mut fmt::Formatter<W>,
     board: &RawPlan,
@@ -81,20 +93,36 @@ fn write_part<W: fmt::Write>(
     item: &[u8],
     part: Part,
 ) -> fmt::Result {
-    write!(
-        f,
-        "field {number}: \"{}\" is not {}",
-        item_text(item),
-        text_of(part)
-    )?;
-    write_known(f, board, part)
+    write!(f, "field {number}")?;
+    write_item(f, ": \"", item, "\" is not ")?;
+    f.write_str(text_of(part))?;
+    write_known(f, board, part)?;
+    write_flags(f, part)
 }
 
 /// The message whose name is near.
 fn near_message(alloc: Global, text: &str) -> Option<&'static str> {
-    nearest(alloc, &BASE_MESSAGES.map(|row| row.name), text)
-        .or(nearest(alloc, &POWER_MESSAGES.map(|row| row.name), text))
-        .or(nearest(alloc, &CLOCK_MESSAGES.map(|row| row.name), text))
+    for protocol in &protocols() {
+        if let Some(name) = near_row(alloc, protocol.messages, text) {
+            return Some(name);
+        }
+    }
+    None
+}
+
+/// The first name of these messages that is near.
+fn near_row(alloc: Global, rows: &[HeldRow], text: &str) -> Option<&'static str> {
+    let mut names = Vec::new(alloc);
+    for row in rows {
+        names.push(row.name).ok()?;
+    }
+    nearest(alloc, &names, text)
+}
+
+/// The protocols, with the tables of their messages, which are named here alone, as the table of
+/// tasks is.
+pub(crate) fn protocols() -> [HeldProtocol; 3] {
+    PROTOCOLS
 }
 
 /// What a message has in the place of this part.
@@ -122,40 +150,40 @@ fn write_known<W: fmt::Write>(
     board: &RawPlan,
     part: Part,
 ) -> fmt::Result {
-    match part {
-        Part::Agent | Part::Subject => {
-            f.write_str(": the board has")?;
-            for (place, name) in board.agents.iter().enumerate() {
-                write_name(f, place.saturating_add(1), name)?;
-            }
-            Ok(())
-        }
-        Part::Domain => {
-            f.write_str(": the board has")?;
-            for (number, domain) in board.domains.iter().enumerate() {
-                write_name(f, number, &domain.name)?;
-            }
-            Ok(())
-        }
-        Part::Clock => {
-            f.write_str(": the board has")?;
-            for (number, clock) in board.clocks.iter().enumerate() {
-                write_name(f, number, &clock.name)?;
-            }
-            Ok(())
-        }
-        _ => Ok(()),
+    if !matches!(
+        part,
+        Part::Agent | Part::Subject | Part::Domain | Part::Clock
+    ) {
+        return Ok(());
     }
+    f.write_str(": the board has")?;
+    for place in 0..usize::MAX {
+        let Some((number, name)) = named_at(board, part, place) else {
+            break;
+        };
+        write!(f, " {number} {name}")?;
+    }
+    Ok(())
 }
 
-fn write_name<W: fmt::Write>(f: &mut fmt::Formatter<W>, number: usize, name: &str) -> fmt::Result {
-    write!(f, " {number} {name}")
+/// The number and the name of the agent, domain or clock in this place of the board, if a part is
+/// one and there are so many.
+pub(crate) fn named_at(board: &RawPlan, part: Part, place: usize) -> Option<(usize, &str)> {
+    match part {
+        Part::Agent | Part::Subject => Some((
+            place.saturating_add(1),
+            board.agents.get(place)?.as_str(),
+        )),
+        Part::Domain => Some((place, board.domains.get(place)?.name.as_str())),
+        Part::Clock => Some((place, board.clocks.get(place)?.name.as_str())),
+        _ => None,
+    }
 }
 
 /// Writes which names flags have in the place of this part.
 fn write_flags<W: fmt::Write>(f: &mut fmt::Formatter<W>, part: Part) -> fmt::Result {
     for row in flags_of(part) {
-        write!(f, ", {}", item_text(row.name))?;
+        write_item(f, ", ", row.name, "")?;
     }
     Ok(())
 }

@@ -1,6 +1,6 @@
 use Rattle.std.proofs.lemmas.Result.{err_from_is_err_and}
 use Rattle.scmi.proofs.TableFaults.{board_fails}
-use Rattle.scmi.proofs.table_read.board_of.Goals as goal
+use Rattle.scmi.proofs.table_run.board_of.Goals as goal
 
 pub returns-in_err-valid-clause-faults : goal.returns-in_err-valid-clause-faults
 returns-in_err-valid-clause-faults c =
