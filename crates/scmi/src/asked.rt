@@ -186,8 +186,8 @@ fn with_no_file<'a>(request: Request) -> Asked<'a> {
     }
 }
 
-/// The first of the names that begins with a dash, as no file's name may but that of standard input,
-/// into which no session is saved.
+/// The first of the names that begins with a dash, as no file's name may but that of standard
+/// input, into which no session is saved.
 fn no_file<'a>(
     first: Option<&'a str>,
     second: Option<&'a str>,

@@ -7,8 +7,9 @@ use std::alloc::{AllocError, Global};
 /// The program's name.
 pub const NAME: &str = "scmi";
 
-/// The names of flags and options. `BINARY` asks to read an input as bytes, and `OFFSET`, `SIZE` and
-/// `STRIDE` say which of a dump's bytes are areas; `SAVE` names the file into which a session is saved.
+/// The names of flags and options. `BINARY` asks to read an input as bytes, and `OFFSET`, `SIZE`
+/// and `STRIDE` say which of a dump's bytes are areas; `SAVE` names the file into which a session
+/// is saved.
 pub const HELP: &str = "help";
 
 pub const VERSION: &str = "version";

@@ -36,8 +36,8 @@ const INSTANCE: &[u8] = b"id=";
 /// The words of lines that post, before the number of an agent.
 const POSTS: [&[u8]; 3] = [b"do", b"raw", b"bad"];
 
-/// Why the line of this number of a record is refused, if the board has so many agents, and the first
-/// lines of the record are these.
+/// Why the line of this number of a record is refused, if the board has so many agents, and the
+/// first lines of the record are these.
 pub fn record_cause(alloc: Global, agents: u32, record: &[u8], line: u32) -> RecordCause {
     if !has_line(record, line) {
         return RecordCause::Far;

@@ -98,8 +98,8 @@ pub fn lack_board(rt: &impl Eprint, task: Task) -> u8 {
     WRONG_ARGUMENT
 }
 
-/// Reports on standard error that standard input is named for this besides what is read from it, and
-/// gives the exit status.
+/// Reports on standard error that standard input is named for this besides what is read from it,
+/// and gives the exit status.
 pub fn refuse_standard(rt: &impl Eprint, operand: &str, other: &str) -> u8 {
     let _ = eprintln!(rt;
         "scmi: {other} is read from standard input; {operand} must be a file then"

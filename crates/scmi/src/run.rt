@@ -171,7 +171,8 @@ fn run_given<T: Threads + Wait + Sync, R: Read, W: Write>(
     }
 }
 
-/// Writes the tables of the board of an input, whose rates may have units, and gives the exit status.
+/// Writes the tables of the board of an input, whose rates may have units, and gives the exit
+/// status.
 fn write_tables<R: Read, W: Write>(alloc: Global, reader: &mut R, writer: &mut W) -> u8
     ensures { result ≡ 0 → IfSome (R.remaining reader.old)
         (λ text. HoldsBoard (Some (in_hertz text))) }

@@ -172,8 +172,8 @@ fn report_board_names(rt: &impl Eprint, board: &RawPlan) {
     report_part(rt, board, Part::Clock, "clock");
 }
 
-/// Reports the names that a board has for a part: after this word and a number, or alone if there is
-/// no word.
+/// Reports the names that a board has for a part: after this word and a number, or alone if there
+/// is no word.
 fn report_part(rt: &impl Eprint, board: &RawPlan, part: Part, word: &str) {
     for place in 0..usize::MAX {
         let Some((number, name)) = named_at(board, part, place) else {

@@ -10,8 +10,8 @@ use scmi_codec::{Answer, Header, Message, TOKENS};
 use scmi_text::{AgentStep, Step};
 use std::alloc::{AllocError, Global};
 
-/// The texts, of which each `%` is a value: a header, and behind it payload words or the length of a
-/// malformed frame.
+/// The texts, of which each `%` is a value: a header, and behind it payload words or the length of
+/// a malformed frame.
 const HEADER: &str = "header %";
 
 const WORDS: &str = ", words %";
@@ -38,8 +38,8 @@ fn add_words(alloc: Global, text: &mut Vec<u8>, words: &[u32]) -> Result<(), All
     Ok(())
 }
 
-/// The header and words of the message that a step posts, with its token if that is known; the length
-/// and header of a frame that is malformed.
+/// The header and words of the message that a step posts, with its token if that is known; the
+/// length and header of a frame that is malformed.
 pub(crate) fn step_detail(
     alloc: Global,
     step: &Step,

@@ -31,11 +31,11 @@ pub enum Form {
     Mermaid,
 }
 
-/// Draws the run of an input in a form and gives the exit status: 0, or that of the error, whose text
-/// is written as the last line. A fault that can't be written gives status 1.
+/// Draws the run of an input in a form and gives the exit status: 0, or that of the error, whose
+/// text is written as the last line. A fault that can't be written gives status 1.
 ///
-/// `written` is what follows the first line as somebody wrote it, if that is not what is run: beside
-/// each step of an SVG stands its line of `written`.
+/// `written` is what follows the first line as somebody wrote it, if that is not what is run:
+/// beside each step of an SVG stands its line of `written`.
 pub fn run_draw<T: Threads + Wait + Sync, G: Gate, R: Read, W: Write>(
     rt: &T,
     alloc: Global,
@@ -76,8 +76,8 @@ pub fn draw_input<T: Threads + Wait + Sync, G: Gate, R: CountedRead + Drop, W: W
 }
 
 /// Reads a board and a script, or the scripts of its agents, runs it, and writes the chart of the
-/// run in a form. The errors are those of `read_chart`: after each of these nothing is written. Then
-/// `Write` if the output fails: a part may then be written.
+/// run in a form. The errors are those of `read_chart`: after each of these nothing is written.
+/// Then `Write` if the output fails: a part may then be written.
 pub fn draw<T: Threads + Wait + Sync, G: Gate, R: CountedRead + Drop, W: Write>(
     rt: &T,
     alloc: Global,

@@ -20,8 +20,8 @@ const BEGIN: &str = "<text x=\"%\" y=\"%\" font-size=\"%\">";
 
 const END: &str = "</text>\n";
 
-/// A part of a label: how its letters are written, how wide that is before them in hundredths of the
-/// font's size, and its letters.
+/// A part of a label: how its letters are written, how wide that is before them in hundredths of
+/// the font's size, and its letters.
 #[derive(Clone, Copy)]
 struct Part<'a> {
     form: &'static str,

@@ -113,8 +113,8 @@ pub(crate) const FAILED: &str = "% failed";
 /// A mark of a notification that was dropped, for a reader who points at it.
 pub(crate) const DROPPED: &str = "the notification of % for % was dropped: its outbox has no room";
 
-/// What the hardware reported: a domain or clock and its value now, which pending set ends first, or
-/// a clock and the rate that its pending set gives it.
+/// What the hardware reported: a domain or clock and its value now, which pending set ends first,
+/// or a clock and the rate that its pending set gives it.
 pub(crate) const CHANGED: &str = "reported: % is %";
 
 pub(crate) const ENDS_FIRST: &str = "reported: % ends first";

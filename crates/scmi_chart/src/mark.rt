@@ -10,8 +10,8 @@ pub struct Label {
     pub tag: Vec<u8>,
 }
 
-/// A message between an agent and the platform: it leaves in one slot, and is taken in the same or in
-/// a later one.
+/// A message between an agent and the platform: it leaves in one slot, and is taken in the same or
+/// in a later one.
 #[derive(Drop)]
 pub struct Message {
     pub agent: u8,
@@ -47,8 +47,8 @@ pub enum Mark {
         message: Message,
         token: Option<u16>,
     },
-    /// A command that was not executed: it was withdrawn, or waited until the channel was closed or the
-    /// run ended.
+    /// A command that was not executed: it was withdrawn, or waited until the channel was closed or
+    /// the run ended.
     Withdrawn {
         message: Message,
         token: Option<u16>,

@@ -1,7 +1,7 @@
 //! How wide words are.
 
-/// How wide the letters are from the space to `~`, in hundredths of the font's size: those of DejaVu
-/// Sans Bold, the widest of the fonts that a picture names.
+/// How wide the letters are from the space to `~`, in hundredths of the font's size: those of
+/// DejaVu Sans Bold, the widest of the fonts that a picture names.
 const WIDTHS: [u8; 95] = [
     35, 46, 53, 84, 70, 101, 88, 31, 46, 46, 53, 84, 38, 42, 38, 37, 70, 70, 70, 70, 70, 70, 70,
     70, 70, 70, 40, 40, 84, 84, 84, 59, 100, 78, 77, 74, 84, 69, 69, 83, 84, 38, 38, 78, 64, 100,

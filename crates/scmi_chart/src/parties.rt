@@ -21,8 +21,8 @@ struct Party {
     closed: Option<u16>,
 }
 
-/// What is under way between the agents of a board and the platform. An agent that the board lacks has
-/// nothing under way.
+/// What is under way between the agents of a board and the platform. An agent that the board lacks
+/// has nothing under way.
 #[derive(Drop)]
 pub(crate) struct Parties {
     parties: Vec<Party>,

@@ -135,7 +135,8 @@ impl<'a> Place<'a> {
         }
     }
 
-    /// Where a command of this agent waits for the platform: each agent of a side has its own place.
+    /// Where a command of this agent waits for the platform: each agent of a side has its own
+    /// place.
     pub fn waiting_x(self, agent: u8) -> u32 {
         self.beside_platform(agent, 18 + 8 * self.rank(agent).min(8))
     }

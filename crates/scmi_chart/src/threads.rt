@@ -24,10 +24,10 @@ use std::alloc::{AllocError, Global};
 use std::sync::Wait;
 use std::thread::Threads;
 
-/// Runs the scripts of a board's agents, each in a thread of its own, over channels of this kind, and
-/// gives the chart of what that left. `Board`, `Script` and `Plan`, in this order, if the input is
-/// rejected; then `Memory` if out of memory, and `Size` if the run has more than `STEPS` steps. A
-/// run that met a limit is drawn as far as it came.
+/// Runs the scripts of a board's agents, each in a thread of its own, over channels of this kind,
+/// and gives the chart of what that left. `Board`, `Script` and `Plan`, in this order, if the input
+/// is rejected; then `Memory` if out of memory, and `Size` if the run has more than `STEPS` steps.
+/// A run that met a limit is drawn as far as it came.
 pub fn chart_of_threads<T: Threads + Wait + Sync, G: Gate>(
     rt: &T,
     alloc: Global,

@@ -13,8 +13,8 @@ pub const UNSURE: u8 = 6;
 pub struct Checked {
     /// Whether an entry that is judged differs, but by a rule of the profile's own.
     pub differs: bool,
-    /// The line of the first entry that is not judged, since more platforms may be behind the record
-    /// than a check keeps.
+    /// The line of the first entry that is not judged, since more platforms may be behind the
+    /// record than a check keeps.
     pub unsure: Option<u32>,
     /// How many entries and notes are of protocols that are not judged. It stays at 2^32 - 1.
     pub skipped: u32,

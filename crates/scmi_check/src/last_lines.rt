@@ -21,8 +21,8 @@ impl LastLines {
         }
     }
 
-    /// Notes the line of an entry, unless it differs. The line of the entry that explains it then, if
-    /// it is so many back.
+    /// Notes the line of an entry, unless it differs. The line of the entry that explains it then,
+    /// if it is so many back.
     pub fn note(&mut self, line: u32, differs: bool, back: Option<usize>) -> Option<u32> {
         if !differs {
             self.add(line);

@@ -13,8 +13,8 @@ pub struct Note {
 pub enum NoteKind {
     /// A command that has no answer.
     Unanswered,
-    /// A response in a trace that answers no command which waits, or the command that follows it and
-    /// has its token.
+    /// A response in a trace that answers no command which waits, or the command that follows it
+    /// and has its token.
     Unmatched,
     /// Events of a trace that are lost.
     Lost(Lost),

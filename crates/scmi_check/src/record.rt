@@ -13,7 +13,8 @@ use crate::so_far::SoFar;
 use scmi_board::{LineError, Lines, TextError, TextLine};
 use std::alloc::Global;
 
-/// A record: its entries, in the order in which they were found, and what it has that is not judged.
+/// A record: its entries, in the order in which they were found, and what it has that is not
+/// judged.
 #[derive(Drop)]
 pub struct Record {
     pub entries: Vec<Placed>,
@@ -21,16 +22,15 @@ pub struct Record {
 }
 
 /// The record that all lines that are left encode (own). A command is the line of a script that
-/// posts it, `do`, `raw` or `bad`; its answer, and a message of the platform, is the line of a run's
-/// output. Each may be an area of its channel instead, or a line of Linux's ftrace with its event
-/// `scmi_msg_dump`; other lines of a trace are skipped. What the hardware told is the line `report`
-/// of a script. The agents are those of the board, which has
-/// this many.
+/// posts it, `do`, `raw` or `bad`; its answer, and a message of the platform, is the line of a
+/// run's output. Each may be an area of its channel instead, or a line of Linux's ftrace with its
+/// event `scmi_msg_dump`; other lines of a trace are skipped. What the hardware told is the line
+/// `report` of a script. The agents are those of the board, which has this many.
 ///
-/// What can't be judged is noted: a command without an answer, a response in a trace that answers no
-/// command which waits, with the command that follows it and has its token, and events that are lost,
-/// from which on no command of a trace waits. Of protocols other than the ones that are judged all
-/// is skipped, and counted.
+/// What can't be judged is noted: a command without an answer, a response in a trace that answers
+/// no command which waits, with the command that follows it and has its token, and events that are
+/// lost, from which on no command of a trace waits. Of protocols other than the ones that are
+/// judged all is skipped, and counted.
 ///
 /// `Script` gives the number of the first line that is not a line of a record: of another form,
 /// of an agent that the board lacks, a command, but of ftrace, before its agent's waiting one has

@@ -41,8 +41,8 @@ pub(crate) enum Shown {
     Skipped,
 }
 
-/// What a line shows: as one of Linux's ftrace the message of its event `scmi_msg_dump`, that events
-/// are lost, or nothing; any other line as one of a session. `Form` if it is neither.
+/// What a line shows: as one of Linux's ftrace the message of its event `scmi_msg_dump`, that
+/// events are lost, or nothing; any other line as one of a session. `Form` if it is neither.
 #[tactic(auto, unfolding(crate::specs::Shown::shown_at))]
 pub(crate) fn read_shown(alloc: Global, text: &[u8], agents: u32) -> Result<Shown, LineError>
     ensures { GivesUnless (λ shown. shown) result (shown_at agents text.now) }

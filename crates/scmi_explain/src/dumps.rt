@@ -57,8 +57,8 @@ fn slip_of_rows(input: &[u8], line: &[u8]) -> Option<Slip> {
 /// What the decimal addresses of second rows of 16 bytes end in, and those of further rows.
 const DECIMAL_ENDS: [&[u8]; 3] = [b"016", b"032", b"048"];
 
-/// Whether the addresses of rows of 16 bytes seem to be decimal: the first is 0, and the next is 16, or
-/// more than that if rows repeat.
+/// Whether the addresses of rows of 16 bytes seem to be decimal: the first is 0, and the next is
+/// 16, or more than that if rows repeat.
 fn has_decimal_addresses(input: &[u8]) -> bool {
     let mut is_behind = false;
     for line in input.split(is_line_feed) {

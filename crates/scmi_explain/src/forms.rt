@@ -3,8 +3,8 @@
 /// The form of a line.
 #[derive(Clone, Copy)]
 pub(crate) struct Form {
-    /// What each item has to be: a word, or in capitals what `fields.rt` says of it. `a|b` is one of
-    /// these words, and `a/b` the first one, where other forms have the others.
+    /// What each item has to be: a word, or in capitals what `fields.rt` says of it. `a|b` is one
+    /// of these words, and `a/b` the first one, where other forms have the others.
     pub items: &'static str,
     /// The whole form, as the documents write it.
     pub text: &'static str,

@@ -117,8 +117,8 @@ fn is_name(item: &[u8]) -> bool {
     from_utf8(item).is_ok_and(|text| Name::new(text).is_some())
 }
 
-/// The first number that a board lacks in the list at this place of a device's row, of domains or of
-/// clocks.
+/// The first number that a board lacks in the list at this place of a device's row, of domains or
+/// of clocks.
 fn held_beyond(board: &[u8], row: &[u8], device: u32, place: u32) -> Option<Sentence<'static>> {
     let kind = if place == 1 { "domain" } else { "clock" };
     let count = count_of(board, kind);

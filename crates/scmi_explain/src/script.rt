@@ -53,8 +53,8 @@ pub(crate) fn script_cause(alloc: Global, input: &[u8], number: u32) -> Cause<'_
     }
 }
 
-/// The slip of a line with an item that is not a number, or too few or too many for these scripts: it
-/// may be one of other modes.
+/// The slip of a line with an item that is not a number, or too few or too many for these scripts:
+/// it may be one of other modes.
 fn slip_of_item(forms: &[Form], line: &[u8], board: &[u8], wrong: &str) -> Option<Slip> {
     if wrong == NO_NUMBER && forms.len() == STEPS {
         return Some(Sentence::of("names are for the modes hardware"));

@@ -60,8 +60,8 @@ pub(crate) fn second_number(line: &[u8]) -> Option<u32> {
     word(item_at(line, 1)?)
 }
 
-/// The first line, without its line feed, and what follows it: all and nothing if no line feed is in
-/// the input.
+/// The first line, without its line feed, and what follows it: all and nothing if no line feed is
+/// in the input.
 pub fn split_first(input: &[u8]) -> (&[u8], &[u8])
     ensures line { result.0.now ≡ first_line input.now }
     ensures rest { result.1.now ≡ after_line input.now }

@@ -97,8 +97,8 @@ impl Judge {
         Ok(())
     }
 
-    /// Makes places for one more platform that may be looked back to, of two times, before the first
-    /// entry; more than `GOING_ON` are of no use. `Memory` is the only error.
+    /// Makes places for one more platform that may be looked back to, of two times, before the
+    /// first entry; more than `GOING_ON` are of no use. `Memory` is the only error.
     pub fn add_look_back(&mut self, before: Plan, between: Plan) -> Result<(), CoreError>
         requires before { before ≡ self.old.board }
         requires between { between ≡ self.old.board }
@@ -119,9 +119,9 @@ impl Judge {
     }
 
     /// Judges the next entry. If the entries so far have a legal history, the verdict is `Same` if
-    /// and only if they have one with this entry. After `Same` it is one of the entries so far. After
-    /// another verdict the judge knows what it knew: judge another entry in its place, or `go_on`.
-    /// What the verdict says was due is right in its place.
+    /// and only if they have one with this entry. After `Same` it is one of the entries so far.
+    /// After another verdict the judge knows what it knew: judge another entry in its place, or
+    /// `go_on`. What the verdict says was due is right in its place.
     ///
     /// `None` once more different platforms may be behind the entries so far than there are places,
     /// and from then on, also after an error. `Memory` is the only error.
@@ -169,9 +169,9 @@ impl Judge {
         }
     }
 
-    /// Passes over an entry that differs. If one of the last entries alone explains it, it goes on as
-    /// if that had been another, and else from what this one shows, if that can be. From there on
-    /// nothing is promised but that the places stay. `Memory` is the only error.
+    /// Passes over an entry that differs. If one of the last entries alone explains it, it goes on
+    /// as if that had been another, and else from what this one shows, if that can be. From there
+    /// on nothing is promised but that the places stay. `Memory` is the only error.
     pub fn go_on(&mut self, entry: &Entry) -> Result<(), CoreError>
         ensures places { OnOk result (length self.new.guesses + length self.new.spare
             ≡ length self.old.guesses + length self.old.spare) }

@@ -68,8 +68,8 @@ impl Act {
 /// that complete and messages that are posted.
 #[derive(Clone, Copy)]
 pub struct Unseen {
-    /// Which changes of pending sets the hardware may refuse. If any, it may also refuse a command's
-    /// change with another fault than HARDWARE_ERROR.
+    /// Which changes of pending sets the hardware may refuse. If any, it may also refuse a
+    /// command's change with another fault than HARDWARE_ERROR.
     pub refusals: Refusals,
     /// Whether agents may restart.
     pub restarts: bool,

@@ -15,6 +15,7 @@ pub enum Verdict {
     Message(Message),
     /// No message was to come.
     NoMessage,
-    /// The hardware could not tell this: no platform that may be behind the entries before takes it.
+    /// The hardware could not tell this: no platform that may be behind the entries before takes
+    /// it.
     NoReport,
 }
