@@ -1,7 +1,10 @@
 //! A run from its input to its exit status.
-ghost use Rattle.std.specs.Prelude.{◌≡◌, ◌≢◌, ◌≤◌, ◌+◌, ◌*◌, IfErr, IfOk, IfSome, OnOk};
+ghost use Rattle.std.specs.Prelude.{◌≡◌, ◌≢◌, ◌≤◌, ◌+◌, ◌*◌, ◌⊎◌, IfErr, IfNone, IfOk, IfSome, OnOk};
 ghost use Rattle.scmi_io.specs.declared.input.TheConstants.{INPUT_BYTES};
-ghost use Rattle.scmi_modes.specs.AnyMode.{any_text_of};
+ghost use Rattle.scmi_modes.specs.AnyMode.{Takes, any_text_of};
+ghost use Rattle.scmi_modes.specs.declared.any_mode.AnyMode.TheVariants as any;
+ghost use Rattle.scmi_modes.specs.declared.any_mode.Modes.TheVariants as modes;
+ghost use Rattle.scmi_modes.specs.declared.mode.Mode.TheVariants as mode;
 ghost use Rattle.scmi_modes.specs.Reads.{StopsAtFailure};
 ghost use Rattle.std.specs.Io.KnownBytes.{Appends};
 ghost use Rattle.scmi_chart.specs.Diagram.{diagram_text};
@@ -133,7 +136,9 @@ pub fn read_chart<T: Threads + Wait + Sync, G: Gate, R: CountedRead + Drop>(
 
 /// The mode that a first line names, exactly, if its runs are drawn.
 fn drawn_mode(line: &[u8]) -> Option<AnyMode>
-    ensures { IfSome result (λ mode. line.now ≡ any_text_of mode) }
+    ensures some { IfSome result (λ mode. line.now ≡ any_text_of mode) }
+    ensures none { IfNone result ((line.now ≡ any_text_of (any.Plain mode.Once))
+        ⊎ ((mode : AnyMode) → Takes modes.ForPeople mode → line.now ≢ any_text_of mode)) }
 {
     match Modes::ForPeople.of_line(line)? {
         AnyMode::Plain(Mode::Once) => None,
