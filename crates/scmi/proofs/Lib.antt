@@ -1,2 +1,1 @@
 mod Givens
-mod TableFaults

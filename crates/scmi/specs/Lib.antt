@@ -1,5 +1,4 @@
 pub mod TableRun
-pub mod TableError
 pub mod Given
 pub mod Program
 pub mod Record

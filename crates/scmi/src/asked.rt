@@ -7,7 +7,6 @@ use crate::command::{
 use crate::forms::task_of;
 use crate::request::{Request, Task};
 use clap::ArgMatches;
-use clap::parser::ValueSource;
 use scmi_board::number;
 use scmi_check::{NOTHING_UNSEEN, Refusals, Style, Unseen};
 use scmi_decode::{Layout, LayoutError};
@@ -57,9 +56,9 @@ pub fn asked_of<'a>(matches: &ArgMatches<'a>) -> Result<Asked<'a>, Unread<'a>> {
 
 /// What the flags before the word of a task ask for: a run if there are none.
 fn task_by_flags(matches: &ArgMatches<'_>) -> Task {
-    if is_used(matches, HELP) {
+    if matches.get_flag(HELP) {
         Task::Help
-    } else if is_used(matches, VERSION) {
+    } else if matches.get_flag(VERSION) {
         Task::Version
     } else {
         Task::Run
@@ -70,7 +69,7 @@ fn task_by_flags(matches: &ArgMatches<'_>) -> Task {
 fn asked_below<'a>(word: &'a str, matches: &ArgMatches<'a>) -> Result<Asked<'a>, Unread<'a>> {
     match task_of(word) {
         Some(Task::Help) => Ok(with_no_file(help_by(matches)?)),
-        Some(task) if is_used(matches, HELP) => Ok(with_no_file(Request::HelpOn(task))),
+        Some(task) if matches.get_flag(HELP) => Ok(with_no_file(Request::HelpOn(task))),
         Some(task) => task_by(task, matches),
         None => Err(Unread::Task(word)),
     }
@@ -78,10 +77,10 @@ fn asked_below<'a>(word: &'a str, matches: &ArgMatches<'a>) -> Result<Asked<'a>,
 
 /// What the matches after the word for help ask for.
 fn help_by<'a>(matches: &ArgMatches<'a>) -> Result<Request, Unread<'a>> {
-    if is_used(matches, HELP) {
+    if matches.get_flag(HELP) {
         return Ok(Request::HelpOn(Task::Help));
     }
-    match value_of(matches, FIRST) {
+    match matches.get_str(FIRST) {
         None => Ok(Request::Do(Task::Help)),
         Some(word) => match task_of(word) {
             Some(task) => Ok(Request::HelpOn(task)),
@@ -92,16 +91,16 @@ fn help_by<'a>(matches: &ArgMatches<'a>) -> Result<Request, Unread<'a>> {
 
 /// What the matches after the word of a task ask for, if that is not its help.
 fn task_by<'a>(task: Task, matches: &ArgMatches<'a>) -> Result<Asked<'a>, Unread<'a>> {
-    let first = value_of(matches, FIRST);
-    let second = value_of(matches, SECOND);
-    let save = value_of(matches, SAVE);
+    let first = matches.get_str(FIRST);
+    let second = matches.get_str(SECOND);
+    let save = matches.get_str(SAVE);
     if let Some(name) = no_file(first, second, save) {
         return Err(Unread::Dash(name));
     }
     Ok(Asked {
         request: request_by(task, matches)?,
         style: style_by(matches),
-        protocols: value_of(matches, PROTOCOLS),
+        protocols: matches.get_str(PROTOCOLS),
         unseen: unseen_by(matches),
         first,
         second,
@@ -113,16 +112,16 @@ fn task_by<'a>(task: Task, matches: &ArgMatches<'a>) -> Result<Asked<'a>, Unread
 fn request_by<'a>(task: Task, matches: &ArgMatches<'a>) -> Result<Request, Unread<'a>> {
     match task {
         Task::Decode => decode_by(matches),
-        _ if is_used(matches, MERMAID) => Ok(Request::Diagram),
+        _ if matches.get_flag(MERMAID) => Ok(Request::Diagram),
         _ => Ok(Request::Do(task)),
     }
 }
 
 /// The form of a report of check.
 fn style_by(matches: &ArgMatches<'_>) -> Style {
-    if is_used(matches, JSON) {
+    if matches.get_flag(JSON) {
         Style::Json
-    } else if is_used(matches, TAP) {
+    } else if matches.get_flag(TAP) {
         Style::Tap
     } else {
         Style::Plain
@@ -131,14 +130,14 @@ fn style_by(matches: &ArgMatches<'_>) -> Style {
 
 /// What may have happened behind a record that no entry shows.
 fn unseen_by(matches: &ArgMatches<'_>) -> Unseen {
-    let refusals = if is_used(matches, REFUSALS) {
+    let refusals = if matches.get_flag(REFUSALS) {
         Refusals::Answered
     } else {
         Refusals::None
     };
     Unseen {
         refusals,
-        restarts: is_used(matches, RESTARTS),
+        restarts: matches.get_flag(RESTARTS),
     }
 }
 
@@ -148,7 +147,7 @@ fn decode_by<'a>(matches: &ArgMatches<'a>) -> Result<Request, Unread<'a>> {
     let size = number_by(matches, SIZE)?;
     let stride = number_by(matches, STRIDE)?;
     match Layout::new(offset, size, stride) {
-        Ok(layout) if is_used(matches, BINARY) => Ok(Request::Bytes(layout)),
+        Ok(layout) if matches.get_flag(BINARY) => Ok(Request::Bytes(layout)),
         Ok(layout) => Ok(Request::Dumps(layout)),
         Err(error) => Err(Unread::Layout(error)),
     }
@@ -159,7 +158,7 @@ fn number_by<'a>(
     matches: &ArgMatches<'a>,
     option: &'static str,
 ) -> Result<Option<usize>, Unread<'a>> {
-    match value_of(matches, option) {
+    match matches.get_str(option) {
         None => Ok(None),
         Some(word) => match count_of(word) {
             Some(count) => Ok(Some(count)),
@@ -203,18 +202,5 @@ fn no_file<'a>(
 
 /// Whether a word begins with a dash, as options do.
 pub(crate) fn begins_with_dash(word: &str) -> bool {
-    match word.as_bytes() {
-        [first, ..] => *first == b'-',
-        [] => false,
-    }
-}
-
-/// Whether a flag was used.
-fn is_used(matches: &ArgMatches<'_>, name: &str) -> bool {
-    matches!(matches.value_source(name), Some(ValueSource::CommandLine))
-}
-
-/// The word that was found under a name.
-fn value_of<'a>(matches: &ArgMatches<'a>, name: &str) -> Option<&'a str> {
-    matches.get_str(name)
+    word.as_bytes().starts_with(b"-")
 }

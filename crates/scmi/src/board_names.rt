@@ -11,10 +11,11 @@ use std::alloc::{AllocError, Global};
 
 /// The names of a board: a line of a record that is a step by them is read as the line of numbers
 /// that is this step.
-#[derive(Debug, Drop)]
+#[derive(Drop)]
 pub struct BoardNames {
-    board: RawPlan,
-    agents: u32,
+    pub board: RawPlan,
+    /// How many agents it has.
+    pub agents: u32,
 }
 
 impl BoardNames {
@@ -30,16 +31,6 @@ impl BoardNames {
             // A board of 2^32 agents.
             Err(_) => Err(CheckError::Memory),
         }
-    }
-
-    /// The board.
-    pub fn board(&self) -> &RawPlan {
-        &self.board
-    }
-
-    /// How many agents it has.
-    pub fn agents(&self) -> u32 {
-        self.agents
     }
 }
 

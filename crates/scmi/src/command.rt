@@ -75,13 +75,14 @@ fn task_command<'a>(alloc: Global, form: &Form) -> Result<Command<'a>, AllocErro
 /// A command after which these may follow.
 fn with_operands<'a>(
     alloc: Global,
-    mut command: Command<'a>,
+    command: Command<'a>,
     operands: &[Operand],
 ) -> Result<Command<'a>, AllocError> {
+    let mut args = Vec::new(alloc);
     for operand in operands {
-        command = command.arg(operand_arg(alloc, *operand))?;
+        args.push(operand_arg(alloc, *operand))?;
     }
-    Ok(command)
+    command.args(args)
 }
 
 /// What may follow a command's word, as clap reads it.

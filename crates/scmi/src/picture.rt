@@ -49,7 +49,7 @@ pub(crate) fn picture_of(alloc: Global, board: &[u8], text: &[u8]) -> Result<Cha
     if record.entries.len() > STEPS {
         return Err(NotDrawn::Many);
     }
-    let mut chart = chart_of(alloc, names.board(), plan, &record, text)?;
+    let mut chart = chart_of(alloc, &names.board, plan, &record, text)?;
     // The states of domains and clocks, which a record does not show.
     chart.columns.clear();
     Ok(chart)
@@ -59,7 +59,7 @@ pub(crate) fn picture_of(alloc: Global, board: &[u8], text: &[u8]) -> Result<Cha
 fn read_with_names(alloc: Global, names: &BoardNames, text: &[u8]) -> Result<Record, NotDrawn> {
     let numbered = with_numbers(alloc, names, text)?;
     let mut lines = Lines::of_text(&numbered);
-    match read_record(alloc, &mut lines, names.agents(), &PROTOCOLS) {
+    match read_record(alloc, &mut lines, names.agents, &PROTOCOLS) {
         Ok(record) => Ok(record),
         Err(error) => Err(NotDrawn::Refused(CheckError::from(error))),
     }

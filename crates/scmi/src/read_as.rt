@@ -4,16 +4,10 @@ use scmi_decode::{Reading, Readings};
 use std::io::Eprint;
 
 /// Reports how the areas of an input of this name are read.
-#[derive(Clone, Copy)]
+#[derive(Drop)]
 pub struct ReadAs<'a, T: Eprint> {
-    rt: &'a T,
-    name: &'a str,
-}
-
-impl<'a, T: Eprint> ReadAs<'a, T> {
-    pub fn new(rt: &'a T, name: &'a str) -> ReadAs<'a, T> {
-        ReadAs { rt, name }
-    }
+    pub rt: &'a T,
+    pub name: &'a str,
 }
 
 impl<T: Eprint> Readings for ReadAs<'_, T> {

@@ -2,14 +2,13 @@
 
 use crate::given::is_hardware;
 use crate::report_board::report_board;
-use crate::report_found::report_found;
 use crate::report_unknown::report_unknown;
 use crate::request::{Request, Task};
-use scmi_explain::{Expected, Fault, Kept, LastLine, explain, split_first};
+use scmi_explain::{Expected, Explanation, Fault, Kept, LastLine, explain, split_first};
 use scmi_io::FAILED_OUTPUT;
 use scmi_live::in_hertz;
 use std::alloc::Global;
-use std::io::{Eprint, ErrorKind, Read, Write};
+use std::io::{Eprint, Error, ErrorKind, Read, Write};
 
 /// Reports what is wrong with the input of this name, if a run's last line is a fault.
 pub fn report_input<R: Read + Drop>(
@@ -27,7 +26,7 @@ pub fn report_input<R: Read + Drop>(
         return report_bytes(rt, name, input.bytes());
     }
     if request == Request::Do(Task::Table) {
-        return report_board(rt, alloc, name, input, fault);
+        return report_board(rt, alloc, name, input.bytes(), fault, input.error(), "");
     }
     let hertz = script_in_hertz(alloc, input.bytes());
     let text = hertz.as_deref().unwrap_or(input.bytes());
@@ -36,6 +35,20 @@ pub fn report_input<R: Read + Drop>(
     }
     let found = explain(alloc, expected_of(request), text, fault);
     report_found(rt, name, fault, found, input.error());
+}
+
+/// Reports what was found for a fault in the input of this name; of a failed read, its error too.
+pub(crate) fn report_found(
+    rt: &impl Eprint,
+    name: &str,
+    fault: Fault,
+    found: Explanation<'_>,
+    error: Option<Error>,
+) {
+    let _ = match error {
+        Some(error) if fault == Fault::Read => eprintln!(rt; "{name}{found}: {error}"),
+        _ => eprintln!(rt; "{name}{found}"),
+    };
 }
 
 /// The text of a script of a mode `hardware` as it was read: its board may have rates with units.
@@ -93,12 +106,17 @@ pub fn report_output<W: Write + Drop>(
     if output.flush().is_ok() && status != FAILED_OUTPUT {
         return status;
     }
-    let _ = match output.error() {
+    report_lost(rt, output.error());
+    FAILED_OUTPUT
+}
+
+/// Reports that the output failed, with this error of its writer.
+fn report_lost(rt: &impl Eprint, error: Option<Error>) {
+    let _ = match error {
         Some(error) if error.kind() == ErrorKind::BrokenPipe => Ok(()),
         Some(error) => eprintln!(rt; "scmi: the output could not be written: {error}"),
         None => eprintln!(rt; "scmi: the output could not be written"),
     };
-    FAILED_OUTPUT
 }
 
 /// What the input of a task should be.

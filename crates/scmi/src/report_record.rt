@@ -23,12 +23,12 @@ pub fn report_record(
         return report_cause(rt, name, line, RecordCause::Form);
     };
     let cause = match in_numbers(alloc, &names, record, line) {
-        Ok(given) => record_cause(alloc, names.agents(), &given, line),
+        Ok(given) => record_cause(alloc, names.agents, &given, line),
         Err(_) => RecordCause::Form,
     };
     let text = line_of(record, line);
     let may_have_names = matches!(cause, RecordCause::Form) && is_post(text);
-    if may_have_names && report_names(rt, alloc, name, names.board(), line, text) {
+    if may_have_names && report_names(rt, alloc, name, &names.board, line, text) {
         return;
     }
     report_cause(rt, name, line, cause);

@@ -104,7 +104,7 @@ fn reads_standard(asked: Asked<'_>) -> bool {
 
 /// Whether an input is standard input, by the name of its file.
 fn is_standard(name: Option<&str>) -> bool {
-    matches!(name, None | Some(STANDARD))
+    name.unwrap_or(STANDARD) == STANDARD
 }
 
 /// Whether a request asks for a text of the program's own, in which no word shows a fault.
@@ -178,7 +178,7 @@ fn serve_on<T: Threads + Wait + Sync + Eprint, R: Read + Drop, W: Write + Drop>(
 ) -> u8 {
     let mut input = Kept::new(alloc, reader);
     let mut output = LastLine::new(writer);
-    let mut readings = ReadAs::new(rt, name);
+    let mut readings = ReadAs { rt, name };
     let status = run_request(rt, alloc, request, &mut input, &mut output, &mut readings);
     let status = report_output(rt, &mut output, status);
     if status != 0 && status != FAILED_OUTPUT {
@@ -197,7 +197,7 @@ fn serve_whole<T: Threads + Wait + Sync + Print + Eprint, R: Read + Drop>(
 ) -> u8 {
     let mut input = Kept::new(alloc, reader);
     let mut whole = Vec::new(alloc);
-    let mut readings = ReadAs::new(rt, name);
+    let mut readings = ReadAs { rt, name };
     match run_request(rt, alloc, request, &mut input, &mut whole, &mut readings) {
         0 => write_whole(rt, &whole),
         // A vector refuses bytes only if there is no memory for them.

@@ -81,8 +81,8 @@ impl<'a> AskedCheck<'a> {
     /// The file of the record, if that is not standard input.
     fn file_of_record(&self) -> Option<&'a str> {
         match self.record {
-            Some(STANDARD) | None => None,
-            name => name,
+            Some(name) if name != STANDARD => Some(name),
+            _ => None,
         }
     }
 
@@ -294,7 +294,8 @@ fn report<B: Read + Drop, R: Read + Drop>(
     } else if let Some(error) = record.error() {
         let _ = eprintln!(rt; "{name}: the record can't be read: {error}");
     } else if let Some(fault) = fault_of_board(last_line, board) {
-        report_board(rt, alloc, asked.board_name(), board, fault);
+        let name = asked.board_name();
+        report_board(rt, alloc, name, board.bytes(), fault, board.error(), "");
     }
 }
 

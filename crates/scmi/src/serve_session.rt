@@ -4,13 +4,14 @@ use crate::STANDARD_INPUT;
 use crate::opened::Opened;
 use crate::painted::Painted;
 use crate::refusal::{NO_FILE, refuse_saved};
-use crate::report::report_output;
-use crate::report_found::report_found;
+use crate::report::{report_found, report_output};
+use crate::report_board::report_board;
 use crate::session::run_session;
 use crate::teller::Teller;
 use crate::terminal::Terminal;
 use scmi_explain::{Expected, Fault, Kept, LastLine, explain};
 use scmi_io::{FAILED_OUTPUT, INPUT_BYTES, write_fault};
+use scmi_modes::RunError;
 use std::alloc::Global;
 use std::fs::{self, Files};
 use std::io;
@@ -37,17 +38,42 @@ pub fn serve_session<T: Print + Eprint + Files, B: Read + Drop, R: Read + Drop>(
     let mut file = Kept::new(alloc, file);
     match Opened::read(alloc, &mut file) {
         Ok(opened) => save(rt, alloc, asked, &opened, reader),
-        Err(refused) => {
-            let mut writer = LastLine::new(io::writer(rt));
-            let fault = refused.fault();
-            let status = write_fault(&mut writer, &fault, fault.status());
-            let status = report_output(rt, &mut writer, status);
-            if status != FAILED_OUTPUT {
-                refused.report(rt, alloc, asked.board, file.error());
-            }
-            status
-        }
+        Err(fault) => refuse_board(rt, alloc, asked.board, &file, fault),
     }
+}
+
+/// Refuses the file of a board, and gives the exit status.
+fn refuse_board<T: Print + Eprint, B: Read + Drop>(
+    rt: &T,
+    alloc: Global,
+    name: &str,
+    file: &Kept<B>,
+    fault: RunError,
+) -> u8 {
+    let mut writer = LastLine::new(io::writer(rt));
+    let status = write_fault(&mut writer, &fault, fault.status());
+    let status = report_output(rt, &mut writer, status);
+    if status == FAILED_OUTPUT {
+        return status;
+    }
+    if let Some(fault) = Fault::of_line(writer.line()) {
+        // Of a file that was not read to its end no line is judged.
+        let bytes = match fault {
+            Fault::Size | Fault::Read => &[],
+            _ => file.bytes(),
+        };
+        let error = file.error();
+        report_board(
+            rt,
+            alloc,
+            name,
+            bytes,
+            fault,
+            error,
+            "; steps are read from standard input",
+        );
+    }
+    status
 }
 
 /// Answers the lines of a reader on a board, and saves them if that is asked for. The file is made

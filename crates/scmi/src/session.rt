@@ -43,5 +43,5 @@ fn answer_lines<R: CountedRead + Drop, L: Listener>(
     let Ok(plan) = opened.plan(alloc) else {
         return Err(LiveError::Memory);
     };
-    run_live::<WordChannel, _, _>(alloc, opened.said(), plan, input, listener)
+    run_live::<WordChannel, _, _>(alloc, &opened.said, plan, input, listener)
 }

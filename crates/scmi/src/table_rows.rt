@@ -29,8 +29,8 @@ fn write_agent<W: Write>(
 ) -> io::Result<()> {
     let name = InString(name);
     let channel = channel_of(lines, agent);
-    let bytes = HEAD_BYTES + 4 * u64::from(channel.words);
-    let one_way = u8::from(channel.one_way);
+    let bytes = HEAD_BYTES + 4 * channel.words as u64;
+    let one_way = channel.one_way as u8;
     let devices = Mask("denied", denied_to(lines, agent, Scope::Device));
     let power = Mask("denied_power", denied_to(lines, agent, Scope::Power));
     let clocks = Mask("denied_clocks", denied_to(lines, agent, Scope::Clock));
@@ -98,10 +98,10 @@ pub(crate) fn write_domains<W: Write>(writer: &mut W, said: &BoardWithLines) -> 
 /// Writes the beginning of a domain's row.
 fn write_domain<W: Write>(writer: &mut W, domain: &RawDomain) -> io::Result<()> {
     let name = InString(&domain.name);
-    let on = u8::from(domain.on);
-    let synchronous = u8::from(domain.synchronous);
-    let asynchronous = u8::from(domain.asynchronous);
-    let notify = u8::from(domain.notify);
+    let on = domain.on as u8;
+    let synchronous = domain.synchronous as u8;
+    let asynchronous = domain.asynchronous as u8;
+    let notify = domain.notify as u8;
     write!(
         writer,
         "    {{ .name = \"{name}\", .on = {on}, .synchronous = {synchronous}, \
@@ -127,7 +127,7 @@ pub(crate) fn write_clocks<W: Write>(writer: &mut W, said: &BoardWithLines) -> i
 /// Writes the beginning of a clock's row.
 fn write_clock<W: Write>(writer: &mut W, first: usize, clock: &RawClock) -> io::Result<()> {
     let name = InString(&clock.name);
-    let enabled = u8::from(clock.enabled);
+    let enabled = clock.enabled as u8;
     let rate = clock.rate;
     write!(
         writer,

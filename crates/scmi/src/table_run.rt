@@ -2,12 +2,13 @@
 ghost use Rattle.std.specs.Prelude.{◌≡◌, ◌≢◌, IfErr, IfOk, IfSome, OnErr, OnOk};
 ghost use Rattle.scmi_board.specs.BoardLines.{described};
 ghost use Rattle.scmi_board.specs.ValidBoard.{IsBoardText};
-ghost use Rattle.scmi.specs.TableRun.{EndsWithFault, HoldsBoard, IsFaultOf};
-ghost use Rattle.scmi.specs.TableError.{status_of};
+ghost use Rattle.scmi_check.specs.Check.{IsFaultOfBoard};
+ghost use Rattle.scmi_check.specs.CheckError.{fault_status};
+ghost use Rattle.scmi.specs.TableRun.{EndsWithFault, HoldsBoard};
 
 use crate::table::write_table;
-use crate::table_error::TableError;
 use scmi_board::{BoardWithLines, read_valid_board};
+use scmi_check::CheckError;
 use scmi_io::{CountedReader, read_rest, write_fault};
 use std::alloc::Global;
 use std::io;
@@ -33,28 +34,29 @@ pub fn run_table<R: Read, W: Write>(alloc: Global, reader: &mut R, writer: &mut 
 /// The exit status once tables were written, or could not be.
 fn status_of_output(output: io::Result<()>) -> u8
     ensures whole { OnOk output (result ≡ 0) }
-    ensures failed { OnErr output (result ≡ status_of TableError.Write) }
+    ensures failed { OnErr output (result ≡ fault_status CheckError.Write) }
 {
     match output {
         Ok(()) => 0,
-        Err(_) => TableError::Write.status(),
+        Err(_) => CheckError::Write.status(),
     }
 }
 
 /// The board of a text, which keeps every rule, and the lines behind its rows.
-fn read_board<R: Read>(alloc: Global, reader: &mut R) -> Result<BoardWithLines, TableError>
+fn read_board<R: Read>(alloc: Global, reader: &mut R) -> Result<BoardWithLines, CheckError>
     ensures board { IfOk result (λ said. IfSome (R.remaining reader.old)
         (λ text. IsBoardText text (described said))) }
     ensures faults { IfErr result (λ e. IfSome (R.remaining reader.old)
-        (λ text. IsFaultOf text e)) }
+        (λ text. IsFaultOfBoard text e)) }
 {
     let text = read_rest(alloc, &mut CountedReader::new(reader))?;
     board_of(alloc, &text)
 }
 
-fn board_of(alloc: Global, text: &[u8]) -> Result<BoardWithLines, TableError>
+/// The same of a text that was read.
+fn board_of(alloc: Global, text: &[u8]) -> Result<BoardWithLines, CheckError>
     ensures board { IfOk result (λ said. IsBoardText text.now (described said)) }
-    ensures faults { IfErr result (IsFaultOf text.now) }
+    ensures faults { IfErr result (IsFaultOfBoard text.now) }
 {
     let valid = read_valid_board(alloc, text)?;
     Ok(valid.described)

@@ -4,16 +4,17 @@ use scmi_board::{BoardLine, ids_of};
 use scmi_plan::{AgentChannel, Scope, WHOLE_CHANNEL};
 use std::fmt::{self, Write};
 
-/// The channels of an agent, by the line that contains them; whole if none does.
+/// The channels of an agent, by the line that contains them, of which there is one at most; whole if
+/// none does.
 pub(crate) fn channel_of(lines: &[BoardLine], agent: u32) -> AgentChannel {
-    let mut channel = WHOLE_CHANNEL;
     for line in lines {
-        match line {
-            BoardLine::Channel(said) if said.agent == agent => channel = said.channel,
-            _ => {}
+        if let BoardLine::Channel(said) = line
+            && said.agent == agent
+        {
+            return said.channel;
         }
     }
-    channel
+    WHOLE_CHANNEL
 }
 
 /// The devices that are denied to an agent, as a whole or for a protocol: bit d is for device d.
@@ -32,13 +33,12 @@ pub(crate) fn denied_to(lines: &[BoardLine], agent: u32, scope: Scope) -> u32 {
 
 /// The ids of the board's protocols, by the last line that contains them.
 pub(crate) fn protocols_of(lines: &[BoardLine]) -> Option<&[u8]> {
-    let mut found = None;
-    for line in lines {
+    for line in lines.iter().rev() {
         if let BoardLine::Protocols(row) = line {
-            found = Some(ids_of(row));
+            return Some(ids_of(row));
         }
     }
-    found
+    None
 }
 
 /// A name, as it is between the quotation marks of a string. A board that keeps the rules has

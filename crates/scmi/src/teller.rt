@@ -62,7 +62,7 @@ impl<'a, T: Eprint, W: Write + Drop, S: Write + Drop> Teller<'a, T, W, S> {
             has_quit: false,
             is_lost: false,
         };
-        teller.save_bytes(opened.text());
+        teller.save_bytes(&opened.text);
         if asked.terminal.is_typed {
             let _ = eprintln!(rt;
                 "Type a step, or help. Replies are described; quit, or Ctrl-D, ends the session."
@@ -139,7 +139,7 @@ impl<'a, T: Eprint, W: Write + Drop, S: Write + Drop> Teller<'a, T, W, S> {
 
     /// Explains a line as one of a script after the board.
     fn explain_numbers(&self, number: usize, text: &[u8]) {
-        let board = self.opened.text();
+        let board = &self.opened.text;
         let mut whole = Vec::new(self.alloc);
         if whole.extend_from_slice(board).is_err() || whole.extend_from_slice(text).is_err() {
             return;
@@ -174,7 +174,7 @@ impl<T: Eprint, W: Write + Drop, S: Write + Drop> Listener for Teller<'_, T, W, 
     }
 
     fn help(&mut self, text: &[u8]) {
-        report_help(self.rt, self.opened.board(), text);
+        report_help(self.rt, &self.opened.said.board, text);
     }
 
     fn quit(&mut self) {
@@ -182,7 +182,7 @@ impl<T: Eprint, W: Write + Drop, S: Write + Drop> Listener for Teller<'_, T, W, 
     }
 
     fn unknown(&mut self, number: usize, text: &[u8]) {
-        let board = self.opened.board();
+        let board = &self.opened.said.board;
         let agents = board.agents.len().min(u32::MAX as usize) as u32;
         match unknown_in(self.alloc, board, agents, text) {
             Some(unknown) => {
@@ -198,7 +198,7 @@ impl<T: Eprint, W: Write + Drop, S: Write + Drop> Listener for Teller<'_, T, W, 
     }
 
     fn dropped(&mut self, agent: u32, domain: u32) {
-        let board = self.opened.board();
+        let board = &self.opened.said.board;
         let who = board.agents.get((agent as usize).wrapping_sub(1));
         let what = board.domains.get(domain as usize);
         if let (Some(who), Some(what)) = (who, what) {

@@ -20,21 +20,24 @@ impl Terminal {
     pub fn of(rt: &HostRuntime) -> Terminal {
         Terminal {
             is_typed: rt.stdin().is_terminal(),
-            is_colored: rt.stdout().is_terminal() && allows_colors(rt),
+            is_colored: rt.stdout().is_terminal() && !refuses_colors(rt) && !is_dumb(rt),
             is_watched: rt.stderr().is_terminal() && !rt.stdout().is_terminal(),
         }
     }
 }
 
-/// Whether the variables of the environment allow colours.
-fn allows_colors(rt: &HostRuntime) -> bool {
-    let is_refused = match env::var(rt, "NO_COLOR") {
+/// Whether the environment has the variable that refuses colours.
+fn refuses_colors(rt: &HostRuntime) -> bool {
+    match env::var(rt, "NO_COLOR") {
         Ok(value) => !value.is_empty(),
-        Err(error) => error != VarError::NotPresent,
-    };
-    let is_dumb = match env::var(rt, "TERM") {
+        Err(error) => !matches!(error, VarError::NotPresent),
+    }
+}
+
+/// Whether the terminal is one without colours, by its name.
+fn is_dumb(rt: &HostRuntime) -> bool {
+    match env::var(rt, "TERM") {
         Ok(name) => name.as_str() == "dumb",
         Err(_) => false,
-    };
-    !is_refused && !is_dumb
+    }
 }
