@@ -14,7 +14,7 @@ use Rattle.scmi_check.specs.declared.check.TheConstants.{PLACES}
 use Rattle.scmi_check.specs.declared.checked.Checked.{Checked}
 use Rattle.scmi_check.specs.declared.judged.Judged.{Judged}
 use Rattle.scmi_check.specs.declared.note.Note.{Note}
-use Rattle.scmi_check.specs.declared.placed.Placed.{Placed}
+use Rattle.scmi_check.specs.declared.record.Placed.{Placed}
 use Rattle.scmi_check.specs.declared.under_way.Check.{Check}
 use Rattle.scmi_check.proofs.Growing.{append-none}
 use Rattle.scmi_check.proofs.Onto.{finished-onto}

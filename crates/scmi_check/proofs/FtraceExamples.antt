@@ -15,7 +15,7 @@ use Rattle.scmi_check.specs.RecordText.{record_left, taken_with, with_line, with
 use Rattle.scmi_check.specs.declared.run.TheConstants.{PROTOCOLS}
 use Rattle.scmi_check.specs.Shown.{shown_at}
 use Rattle.scmi_check.specs.TraceLine.{cpu_left, stamp_left}
-use Rattle.scmi_check.specs.declared.lost.Lost.TheVariants.{Events, Unknown}
+use Rattle.scmi_check.specs.declared.note.Lost.TheVariants.{Events, Unknown}
 use Rattle.scmi_check.specs.declared.note.NoteKind.TheVariants.{Unanswered, Unmatched, Lost}
 use Rattle.scmi_check.proofs.RecordExamples.{at, command, noted, only, with_notes}
 

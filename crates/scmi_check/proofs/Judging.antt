@@ -22,7 +22,7 @@ use Rattle.scmi_check.specs.Judged.{AreJudged, DoesFit, behind, meant, placed_of
 use Rattle.scmi_check.specs.declared.finding.Finding.TheVariants.{Own}
 use Rattle.scmi_check.specs.declared.own_rule.OwnRule.{OwnRule}
 use Rattle.scmi_check.specs.declared.judged.Judged.{Judged}
-use Rattle.scmi_check.specs.declared.placed.Placed.{Placed}
+use Rattle.scmi_check.specs.declared.record.Placed.{Placed}
 use Rattle.scmi_check.proofs.Findings.{as-it-is, as-meant, fits-or-not, other-found, own-due, same-or-not}
 
 -- what has a history with one more entry has one

@@ -18,10 +18,10 @@ use Rattle.scmi_check.specs.Asking.{AskingView, is_free, is_to_ask, place_of_lin
 use Rattle.scmi_check.specs.LeftOut.{LeftView, is_judged, with_left, with_no_answer, with_no_answers, with_note, with_notes, with_skipped, frame_protocol}
 use Rattle.scmi_check.specs.RecordText.{Shows, command_taken, entry_protocol, finished, given_up, all_given_up, is_by, is_early, answered_at, asking_of, none_early, onto, ready, taken_with, token_free, token_taken, with_answer, with_answered, with_asking, with_called, with_entry, with_entry_of, with_judged, with_line, with_lost, with_posted, with_response, with_shown, with_trace, with_traced, with_unmatched}
 use Rattle.scmi_check.specs.Shown.{shown_at}
-use Rattle.scmi_check.specs.declared.lost.Lost.{Lost as LostEvents}
+use Rattle.scmi_check.specs.declared.note.Lost.{Lost as LostEvents}
 use Rattle.scmi_check.specs.declared.note.Note.{Note}
 use Rattle.scmi_check.specs.declared.note.NoteKind.TheVariants.{Lost, Unmatched}
-use Rattle.scmi_check.specs.declared.placed.Placed.{Placed}
+use Rattle.scmi_check.specs.declared.record.Placed.{Placed}
 use Rattle.scmi_check.specs.declared.shown.Shown.{Shown}
 use Rattle.scmi_check.specs.declared.shown.Shown.TheVariants as seen
 use Rattle.scmi_check.specs.declared.shown.Shown.TheVariants.{Called, Posted, PostedBeside, Got, Responded, Took, Missed, Skipped}

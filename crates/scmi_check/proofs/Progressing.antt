@@ -21,7 +21,7 @@ use Rattle.scmi_check.specs.Judged.{AreJudged, DoesFit, behind, does_differ, lin
 use Rattle.scmi_check.specs.Progress.{AreBeingJudged}
 use Rattle.scmi_check.specs.declared.check.TheConstants.{PLACES}
 use Rattle.scmi_check.specs.declared.judged.Judged.{Judged}
-use Rattle.scmi_check.specs.declared.placed.Placed.{Placed}
+use Rattle.scmi_check.specs.declared.record.Placed.{Placed}
 use Rattle.scmi_check.specs.declared.progress.Progress.{Progress}
 use Rattle.scmi_check.proofs.Judging.{judged-more, judged-none, longer, shown}
 

@@ -25,7 +25,7 @@ use Rattle.scmi_check.specs.TraceLine.{cpu_left, stamp_left}
 use Rattle.scmi_check.specs.declared.note.Note.{Note}
 use Rattle.scmi_check.specs.declared.note.NoteKind.{NoteKind}
 use Rattle.scmi_check.specs.declared.note.NoteKind.TheVariants.{Unanswered}
-use Rattle.scmi_check.specs.declared.placed.Placed.{Placed}
+use Rattle.scmi_check.specs.declared.record.Placed.{Placed}
 
 -- the command of a protocol, a token, a message id and these payload words
 abbrev pub command : ℕ → ℕ → ℕ → List ℕ → Frame

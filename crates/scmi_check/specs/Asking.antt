@@ -8,7 +8,7 @@ use Rattle.scmi_judge.specs.declared.entry.Entry.TheVariants.{Asked, GivenUp}
 use Rattle.scmi_judge.specs.declared.outstanding.TheConstants.{OUTSTANDING}
 use Rattle.scmi_check.specs.LeftOut.{is_judged}
 use Rattle.scmi_check.specs.declared.asking.Asking.{Asking}
-use Rattle.scmi_check.specs.declared.placed.Placed.{Placed}
+use Rattle.scmi_check.specs.declared.record.Placed.{Placed}
 use Rattle.scmi_check.specs.declared.waiting.Waiting.{Waiting}
 
 -- the entries, and the line of the command at each place

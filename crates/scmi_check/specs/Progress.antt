@@ -9,7 +9,7 @@ use Rattle.scmi_check.specs.Judged.{AreJudged, DoesFit, behind, does_differ, lin
 use Rattle.scmi_check.specs.Listener.{Grows}
 use Rattle.scmi_check.specs.declared.check.TheConstants.{PLACES}
 use Rattle.scmi_check.specs.declared.judged.Judged.{Judged}
-use Rattle.scmi_check.specs.declared.placed.Placed.{Placed}
+use Rattle.scmi_check.specs.declared.record.Placed.{Placed}
 use Rattle.scmi_check.specs.declared.progress.Progress.{Progress}
 
 -- of these entries so many are judged, with these verdicts: all, or those before the first behind

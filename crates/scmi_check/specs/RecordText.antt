@@ -17,10 +17,10 @@ use Rattle.scmi_check.specs.Asking.{AskingView, asking_view, nothing_asked, plac
 use Rattle.scmi_text.specs.declared.step.Call.{Call}
 use Rattle.scmi_check.specs.LeftOut.{LeftView, frame_protocol, is_judged, left_view, nothing_left, with_left, with_no_answer, with_no_answers, with_note, with_notes, with_skipped}
 use Rattle.scmi_check.specs.Shown.{shown_at}
-use Rattle.scmi_check.specs.declared.lost.Lost.{Lost as LostEvents}
+use Rattle.scmi_check.specs.declared.note.Lost.{Lost as LostEvents}
 use Rattle.scmi_check.specs.declared.note.Note.{Note}
 use Rattle.scmi_check.specs.declared.note.NoteKind.TheVariants.{Unmatched, Lost}
-use Rattle.scmi_check.specs.declared.placed.Placed.{Placed}
+use Rattle.scmi_check.specs.declared.record.Placed.{Placed}
 use Rattle.scmi_check.specs.declared.record.Record.{Record}
 use Rattle.scmi_check.specs.declared.shown.Shown.{Shown}
 use Rattle.scmi_check.specs.declared.shown.Shown.TheVariants as seen

@@ -5,8 +5,8 @@ use Rattle.std.specs.Str.{bytes_eq}
 use Rattle.scmi_board.specs.Items.{◌>>=◌}
 use Rattle.scmi_board.specs.Number.{number_of}
 use Rattle.scmi_decode.specs.Event.{behind_name}
-use Rattle.scmi_check.specs.declared.lost.Lost.{Lost}
-use Rattle.scmi_check.specs.declared.lost.Lost.TheVariants.{Events, Unknown}
+use Rattle.scmi_check.specs.declared.note.Lost.{Lost}
+use Rattle.scmi_check.specs.declared.note.Lost.TheVariants.{Events, Unknown}
 use Rattle.scmi_check.specs.declared.trace_line.TheConstants.{CLOSING, COLON, EVENTS, LOST, OPENING, POINT, PROCESSORS}
 
 -- this many events, if it is a number

@@ -11,7 +11,7 @@ use Rattle.scmi_check.specs.declared.check_error.CheckError.{CheckError}
 use Rattle.scmi_check.specs.declared.check_error.CheckError.TheVariants as error
 use Rattle.scmi_check.specs.declared.judged.Judged.{Judged}
 use Rattle.scmi_check.specs.declared.note.Note.{Note}
-use Rattle.scmi_check.specs.declared.placed.Placed.{Placed}
+use Rattle.scmi_check.specs.declared.record.Placed.{Placed}
 use Rattle.scmi_check.specs.declared.under_way.Check.{Check}
 
 -- what lines show, of which these entries were judged and these notes given before

@@ -4,7 +4,7 @@ ghost use Rattle.scmi_judge.specs.declared.outstanding.TheConstants.{OUTSTANDING
 ghost use Rattle.scmi_check.specs.Asking.{asking_view, is_frame_judged, is_free, is_to_ask, nothing_asked, place_of_line, with_all_asked, with_all_given_up, with_asked, with_free, with_given_up, with_one, with_place};
 
 use crate::left_out::{frame_protocol, is_judged};
-use crate::placed::Placed;
+use crate::record::Placed;
 use crate::waiting::Waiting;
 use scmi_codec::Frame;
 use scmi_judge::{Entry, OUTSTANDING};

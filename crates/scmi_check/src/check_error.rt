@@ -18,7 +18,7 @@ const EMPTY: &str = "empty";
 const LONG: &str = "long ";
 
 /// Why a record is not checked. Its text is what follows the word `fault`.
-#[derive(Clone, Copy, Debug, PartialEq, Eq)]
+#[derive(Clone, Copy, Debug)]
 pub enum CheckError {
     /// The board's text is longer than `INPUT_BYTES`.
     Size,

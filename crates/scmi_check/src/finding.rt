@@ -7,7 +7,7 @@ use scmi_codec::{Answer, Command, Frame, Message};
 use scmi_judge::{Entry, Verdict};
 
 /// What is found of an entry, by the verdict on it.
-#[derive(Clone, Copy, PartialEq, Eq)]
+#[derive(Clone, Copy)]
 pub enum Finding {
     /// The entry is what the definitions require.
     Same,

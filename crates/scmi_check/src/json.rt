@@ -5,8 +5,7 @@ use crate::entry_name::entry_name;
 use crate::finding::Finding;
 use crate::help::Help;
 use crate::judged::Judged;
-use crate::lost::Lost;
-use crate::note::{Note, NoteKind};
+use crate::note::{Lost, Note, NoteKind};
 use crate::reasons::{status_of_reply, wanted_of, write_report};
 use crate::trace_time::TraceTime;
 use scmi_codec::{Answer, Message};
@@ -30,10 +29,10 @@ pub(crate) fn write_json_entry<W: Write>(
     if let Finding::Own(rule) = finding {
         write!(writer, ",\"rule\":\"{}\"", rule.name())?;
     }
-    if finding != Finding::Same {
+    if !matches!(finding, Finding::Same) {
         write_reasons(writer, one)?;
     }
-    if finding == Finding::Differs {
+    if matches!(finding, Finding::Differs) {
         write_help(writer, help)?;
     }
     writeln!(writer, "}}")

@@ -1,5 +1,4 @@
 //! What a record has that is not judged.
-use crate::lost::Lost;
 
 /// What a record has that is not judged, with the number of its line.
 #[derive(Clone, Copy)]
@@ -9,7 +8,7 @@ pub struct Note {
 }
 
 /// Why it is not judged.
-#[derive(Clone, Copy, PartialEq, Eq)]
+#[derive(Clone, Copy)]
 pub enum NoteKind {
     /// A command that has no answer.
     Unanswered,
@@ -18,4 +17,13 @@ pub enum NoteKind {
     Unmatched,
     /// Events of a trace that are lost.
     Lost(Lost),
+}
+
+/// How many events of a trace are lost before a line.
+#[derive(Clone, Copy)]
+pub enum Lost {
+    /// So many.
+    Events(u64),
+    /// Some: the trace does not say how many.
+    Unknown,
 }

@@ -1,9 +1,8 @@
 //! What a record has that is not judged, as lines of a report have it.
 use crate::checked::Checked;
 use crate::counts::Counts;
-use crate::lost::Lost;
-use crate::note::{Note, NoteKind};
-use crate::style::Style;
+use crate::note::{Lost, Note, NoteKind};
+use crate::report::Style;
 use crate::trace_time::{TraceTime, write_time};
 use std::io;
 use std::io::Write;

@@ -22,7 +22,7 @@ const VERSION: &str = "version";
 const BOARD_NAME: &str = "board-name";
 
 /// A rule of the profile's own (own), by which another platform may answer otherwise.
-#[derive(Clone, Copy, PartialEq, Eq)]
+#[derive(Clone, Copy)]
 pub enum OwnRule {
     /// An id that is not there is NOT_FOUND, and here it was INVALID_PARAMETERS.
     UnknownId,

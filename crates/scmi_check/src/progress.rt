@@ -8,13 +8,13 @@ ghost use Rattle.scmi_check.specs.CheckError.{IsRefused};
 ghost use Rattle.scmi_check.specs.Progress.{AreBeingJudged, FindsMore, at_entry};
 ghost use Rattle.scmi_check.specs.declared.check.TheConstants.{PLACES};
 ghost use Rattle.scmi_check.specs.declared.judged.Judged.{Judged as Verdicts};
-ghost use Rattle.scmi_check.specs.declared.placed.Placed.{Placed as Entries};
+ghost use Rattle.scmi_check.specs.declared.record.Placed.{Placed as Entries};
 
 use crate::check_error::CheckError;
 use crate::judged::{Judged, judge_one};
 use crate::last_lines::LastLines;
 use crate::listener::Listener;
-use crate::placed::Placed;
+use crate::record::Placed;
 use scmi_judge::{Entry, Judge};
 
 /// How far the entries of a record are judged.

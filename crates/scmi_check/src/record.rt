@@ -7,11 +7,19 @@ ghost use Rattle.scmi_text.specs.TextLines.{GivesScript};
 ghost use Rattle.scmi_check.specs.RecordText.{record_left, record_view, shows_of, with_line};
 
 use crate::left_out::LeftOut;
-use crate::placed::Placed;
 use crate::shown::read_shown;
 use crate::so_far::SoFar;
 use scmi_board::{LineError, Lines, TextError, TextLine};
+use scmi_judge::Entry;
 use std::alloc::Global;
+
+/// An entry of a record, with the number of the line that shows it: that of the answer, or of the
+/// message.
+#[derive(Drop)]
+pub struct Placed {
+    pub line: u32,
+    pub entry: Entry,
+}
 
 /// A record: its entries, in the order in which they were found, and what it has that is not
 /// judged.

@@ -15,11 +15,21 @@ use crate::listener::Listener;
 use crate::note::{Note, NoteKind};
 use crate::note_text::{write_left, write_note, write_unsure};
 use crate::reasons::write_reasons;
-use crate::style::Style;
 use crate::trace_time::{TraceTime, time_in, write_time};
 use scmi_judge::{Entry, Refusals};
 use std::io;
 use std::io::Write;
+
+/// The form of a report.
+#[derive(Clone, Copy)]
+pub enum Style {
+    /// A line for each entry.
+    Plain,
+    /// The Test Anything Protocol.
+    Tap,
+    /// A JSON object a line.
+    Json,
+}
 
 /// Writes what is found of a record as it comes: a line for each entry, and one for each note of
 /// what is not judged (own). The line of an entry that differs ends with the check that decides, if
@@ -123,7 +133,7 @@ impl<W: Write> Listener for Report<'_, W> {
     fn found(&mut self, one: &Judged, unless: Option<u32>) -> Result<(), CheckError> {
         // A command that is answered later has its line with its answer, and what the hardware told
         // has none.
-        if one.finding() == Finding::Same && !one.entry.is_from_platform() {
+        if matches!(one.finding(), Finding::Same) && !one.entry.is_from_platform() {
             self.sets.add(one);
             return Ok(());
         }

@@ -5,7 +5,7 @@ ghost use Rattle.scmi_check.specs.Shown.{happened_at, other_shown, session_shown
 
 use crate::command_shown::command_shown;
 use crate::event_shown::event_shown;
-use crate::lost::Lost;
+use crate::note::Lost;
 use crate::seen::read_seen;
 use crate::trace_line::{is_trace_line, items_of, lost_in};
 use scmi_board::{Items, LineError};

@@ -8,10 +8,8 @@ ghost use Rattle.scmi_check.specs.RecordText.{all_given_up, given_up, entry_prot
 
 use crate::asking::Asking;
 use crate::left_out::{LeftOut, frame_protocol, is_judged};
-use crate::lost::Lost;
-use crate::note::{Note, NoteKind};
-use crate::placed::Placed;
-use crate::record::Record;
+use crate::note::{Lost, Note, NoteKind};
+use crate::record::{Placed, Record};
 use crate::shown::Shown;
 use crate::waiting::{Early, Waiting, is_early, place_of, take_command, take_with};
 use scmi_board::{LineError, TextError};

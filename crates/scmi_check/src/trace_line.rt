@@ -6,7 +6,7 @@ ghost use Rattle.scmi_decode.specs.Dump.{is_gap};
 ghost use Rattle.scmi_decode.specs.Event.{behind_name};
 ghost use Rattle.scmi_check.specs.TraceLine.{behind_all_digits, behind_digits, cpu_left, has_cpu, has_stamp, is_cpu, is_digit, is_heading, is_stamp, is_trace_line, lost_behind, lost_in, stamp_left};
 
-use crate::lost::Lost;
+use crate::note::Lost;
 use scmi_board::number;
 use std::alloc::{AllocError, Global};
 

@@ -13,7 +13,7 @@ ghost use Rattle.scmi_check.specs.UnderWay.{AddsLine, AddsLines, IsStop, IsStopB
 ghost use Rattle.scmi_check.specs.declared.check.TheConstants.{PLACES};
 ghost use Rattle.scmi_check.specs.declared.judged.Judged.{Judged as Verdicts};
 ghost use Rattle.scmi_check.specs.declared.note.Note.{Note as Notes};
-ghost use Rattle.scmi_check.specs.declared.placed.Placed.{Placed as Entries};
+ghost use Rattle.scmi_check.specs.declared.record.Placed.{Placed as Entries};
 
 use crate::check_error::CheckError;
 use crate::checked::Checked;

@@ -1,7 +1,7 @@
 use Rattle.std.proofs.Common.{◌≡◌, ◌+◌, ◌<◌, ◌∙◌, ◌∷◌, ◌++◌, [], ℕ, suc, List, length, take, get_or, refl, sym, ap, subst, rules, arith}
 use Rattle.std.proofs.Math.Seq.{take-length, take-suc}
 use Rattle.scmi_check.specs.Progress.{FindsMore}
-use Rattle.scmi_check.specs.declared.placed.Placed.{Placed}
+use Rattle.scmi_check.specs.declared.record.Placed.{Placed}
 use Rattle.scmi_check.proofs.Telling.{finds-more, finds-none}
 use Rattle.scmi_check.proofs.progress.Progress.judge_all.Goals as goal
 

@@ -3,7 +3,7 @@ use Rattle.scmi_plan.specs.Board.{Board}
 use Rattle.scmi_judge.specs.declared.unseen.Unseen.{Unseen}
 use Rattle.scmi_check.specs.Progress.{AreBeingJudged, FindsMore}
 use Rattle.scmi_check.specs.declared.judged.Judged.{Judged}
-use Rattle.scmi_check.specs.declared.placed.Placed.{Placed}
+use Rattle.scmi_check.specs.declared.record.Placed.{Placed}
 use Rattle.scmi_check.proofs.progress.Progress.judge_all.Given as goal
 
 abbrev pub invariant-each : goal.invariant-each

@@ -3,7 +3,7 @@ use Rattle.scmi_check.specs.Listener.{Grows}
 use Rattle.scmi_check.specs.Progress.{FindsMore}
 use Rattle.scmi_check.specs.RecordText.{shows_of}
 use Rattle.scmi_check.specs.declared.note.Note.{Note}
-use Rattle.scmi_check.specs.declared.placed.Placed.{Placed}
+use Rattle.scmi_check.specs.declared.record.Placed.{Placed}
 use Rattle.scmi_check.specs.declared.under_way.Check.{Check}
 use Rattle.scmi_check.proofs.Telling.{told-way}
 use Rattle.scmi_check.proofs.under_way.Check.tell.Goals as goal
