@@ -8,7 +8,7 @@ use Rattle.scmi_decode.specs.Decoded.{is_remark}
 use Rattle.scmi_decode.specs.Dump.{is_gap}
 use Rattle.scmi_decode.specs.declared.dump_end.repeated.TheConstants.{REPEATED_BYTES, SURE_BYTES}
 use Rattle.scmi_decode.specs.declared.first_column.TheConstants.{SURE_STEPS}
-use Rattle.scmi_decode.specs.HeldRow.{held_row, may_be_parts, pair_lack}
+use Rattle.scmi_decode.specs.HeldRow.{may_be_parts, pair_lack}
 use Rattle.scmi_decode.specs.declared.layout.Layout.{Layout}
 use Rattle.scmi_decode.specs.declared.layout.Layout.TheVariants.{Whole, From, Each}
 use Rattle.scmi_decode.specs.declared.no_bytes.NoBytes.{NoBytes}
@@ -234,7 +234,7 @@ sixty_four_bytes = sixty_bytes ++ codes "00000000"
 
 -- why a wide row and the line behind it are refused
 abbrev pub LackOf : Layout → Option NoBytes → List ((List ℕ) × List ℕ) → Type 0
-LackOf l why pairs = map (λ p. pair_lack l (held_row 1 p.0 None) p.1) pairs ≡ replicate (length pairs) why
+LackOf l why pairs = map (λ p. pair_lack l p.0 p.1) pairs ≡ replicate (length pairs) why
 
 abbrev pub areas_of_60 : Layout
 areas_of_60 = Each (record { offset = 0; words = 8; gap = 0 })

@@ -1,9 +1,13 @@
 -- The bytes of items, one item after another.
-use Rattle.std.proofs.Common.{◌≡◌, ℕ, ◌+◌, ◌<◌, Bool, true, false, List, [], ◌∷◌, ◌++◌, length, get_or, take, drop, map, reverse, Option, None, Some, sym, ◌∙◌, ap, refl}
+use Rattle.std.proofs.Common.{◌≡◌, ◌==◌, ◌&&◌, ℕ, ◌+◌, ◌<◌, Bool, true, false, if◌then◌else◌, List, [], ◌∷◌, ◌++◌, length, get_or, take, drop, map, reverse, Option, None, Some, sym, ◌∙◌, ap, refl}
+use Rattle.std.specs.Str.{bytes_eq}
 use Rattle.std.proofs.lemmas.List as list
 use Rattle.scmi_decode.specs.declared.cell.Cell.{Cell}
-use Rattle.scmi_decode.specs.Cell.{byte_in, bytes_in}
+use Rattle.scmi_decode.specs.Cell.{are_alike, byte_in, bytes_in, bytes_of_order}
 use Rattle.scmi_decode.specs.Dump.{Adds, item_bytes, items_bytes, both_bytes}
+use Rattle.scmi_decode.specs.MessageLine.{ordered_bytes}
+use Rattle.scmi_decode.specs.declared.order.Order.{Order}
+use Rattle.scmi_decode.specs.declared.order.Order.TheVariants.{Straight, Turned, Unclear}
 
 joined_nothing : (o : Option (List ℕ)) → both_bytes o (Some []) ≡ both_bytes (Some []) o
 joined_nothing None = refl
@@ -27,48 +31,53 @@ items_bad : (t : Bool) (xs : List (List ℕ)) (x : List ℕ) (ys : List (List �
 items_bad t [] x ys bad = ap (λ o. both_bytes o (items_bytes t ys)) bad
 items_bad t (y ∷ more) x ys bad = ap (both_bytes (item_bytes t y)) (items_bad t more x ys bad) ∙ joined_none (item_bytes t y)
 
-one_more : (t : Bool) (xs : List (List ℕ)) (x all bytes : List ℕ) → items_bytes t xs ≡ Some all → item_bytes t x ≡ Some bytes → items_bytes t (xs ++ x ∷ []) ≡ Some (all ++ bytes)
-one_more t xs x all bytes so_far here = items_one_more t xs x ∙ (ap (λ o. both_bytes o (item_bytes t x)) so_far ∙ ap (both_bytes (Some all)) here)
-
-pub turn : {X : Type 0} (t : Bool) (f : X → List ℕ) (xs : List X) (i : ℕ) (d : X) (all bytes : List ℕ) → i < length xs → items_bytes t (map f (take i xs)) ≡ Some all
-    → item_bytes t (f (get_or xs i d)) ≡ Some bytes → items_bytes t (map f (take (i + 1) xs)) ≡ Some (all ++ bytes)
-turn t f xs i d all bytes more so_far here =
-    ap (items_bytes t) (list.map_more f xs i d more) ∙ one_more t (map f (take i xs)) (f (get_or xs i d)) all bytes so_far here
-
-pub stop : {X : Type 0} (t : Bool) (f : X → List ℕ) (xs : List X) (i : ℕ) (d : X) → i < length xs → item_bytes t (f (get_or xs i d)) ≡ None → items_bytes t (map f xs) ≡ None
-stop t f xs i d more bad =
-    let cut = ap (λ ys. take i xs ++ ys) (list.drop_more xs i d more) in
-    let parts : map f xs ≡ map f (take i xs) ++ (f (get_or xs i d) ∷ map f (drop (i + 1) xs)) = ap (map f) (sym (list.take-append-drop i xs) ∙ cut) ∙ list.map-append f (take i xs) (get_or xs i d ∷ drop (i + 1) xs) in
-    ap (items_bytes t) parts ∙ items_bad t (map f (take i xs)) (f (get_or xs i d)) (map f (drop (i + 1) xs)) bad
-
 -- nothing was added only of an item that has no bytes
-pub adds_none : (o : Option (List ℕ)) (added : Bool) (old new : List ℕ) → Adds o added old new → added ≡ false → o ≡ None
+adds_none : (o : Option (List ℕ)) (added : Bool) (old new : List ℕ) → Adds o added old new → added ≡ false → o ≡ None
 adds_none None added old new adds none = refl
 adds_none (Some bytes) added old new adds none = cc
 
 -- what was added are the bytes of the item
-pub adds_some : (o : Option (List ℕ)) (added : Bool) (old new : List ℕ) → Adds o added old new → added ≡ true → (bytes : List ℕ) × (o ≡ Some bytes) × (new ≡ old ++ bytes)
+adds_some : (o : Option (List ℕ)) (added : Bool) (old new : List ℕ) → Adds o added old new → added ≡ true → both_bytes (Some old) o ≡ Some new
 adds_some None added old new adds some = absurd (cc)
-adds_some (Some bytes) added old new adds some = (bytes, refl, adds.1)
+adds_some (Some bytes) added old new adds some = ap Some (sym adds.1)
 
--- one more part of a line, which has bytes
-pub part_more : {X : Type 0} (t : Bool) (f : X → List ℕ) (xs : List X) (x : X) (added : Bool) (old new : List ℕ) → Adds (item_bytes t (f x)) added old new → added ≡ true
-    → items_bytes t (map f xs) ≡ Some old → items_bytes t (map f (xs ++ x ∷ [])) ≡ Some new
-part_more t f xs x added old new adds some so_far =
-    let (bytes, here, all) = adds_some (item_bytes t (f x)) added old new adds some in
-    ap (items_bytes t) (list.map-append f xs (x ∷ [])) ∙ (one_more t (map f xs) (f x) old bytes so_far here ∙ ap Some (sym all))
+-- one more item, which has bytes
+pub more : {X : Type 0} (t : Bool) (f : X → List ℕ) (xs : List X) (i : ℕ) (d : X) (added : Bool) (old new : List ℕ) → i < length xs → Adds (item_bytes t (f (get_or xs i d))) added old new
+    → added ≡ true → items_bytes t (map f (take i xs)) ≡ Some old → items_bytes t (map f (take (i + 1) xs)) ≡ Some new
+more t f xs i d added old new inside adds some so_far =
+    let x = f (get_or xs i d) in
+    ap (items_bytes t) (list.map_more f xs i d inside) ∙ items_one_more t (map f (take i xs)) x ∙ ap (λ o. both_bytes o (item_bytes t x)) so_far ∙ adds_some (item_bytes t x) added old new adds some
 
--- a line has no bytes if a part of it has none
-pub part_stop : (t : Bool) (parts : List (List ℕ)) (i : ℕ) (x : List ℕ) (added : Bool) (old new : List ℕ) → Adds (item_bytes t x) added old new → added ≡ false
-    → (i < length parts) × (x ≡ get_or parts i x) → None ≡ items_bytes t parts
-part_stop t parts i x added old new adds none place =
-    sym (ap (items_bytes t) (sym (list.map-id parts)) ∙ stop t (λ part. part) parts i x place.0 (ap (item_bytes t) (sym place.1) ∙ adds_none (item_bytes t x) added old new adds none))
+-- items have no bytes if one of them has none
+pub stop : {X : Type 0} (t : Bool) (f : X → List ℕ) (xs : List X) (i : ℕ) (d : X) (added : Bool) (old new : List ℕ) → i < length xs → Adds (item_bytes t (f (get_or xs i d))) added old new
+    → added ≡ false → items_bytes t (map f xs) ≡ None
+stop t f xs i d added old new inside adds none =
+    let x = f (get_or xs i d) in
+    let cut = ap (λ ys. take i xs ++ ys) (list.drop_more xs i d inside) in
+    let parts : map f xs ≡ map f (take i xs) ++ (x ∷ map f (drop (i + 1) xs)) = ap (map f) (sym (list.take-append-drop i xs) ∙ cut) ∙ list.map-append f (take i xs) (get_or xs i d ∷ drop (i + 1) xs) in
+    ap (items_bytes t) parts ∙ items_bad t (map f (take i xs)) x (map f (drop (i + 1) xs)) (adds_none (item_bytes t x) added old new adds none)
 
 -- one more cell, by its byte in one order
 pub cell_more : (t : Bool) (old new : List Cell) (c : Cell) (first bytes : List ℕ) (i : ℕ) → i < length bytes → new ≡ old ++ c ∷ [] → byte_in t c ≡ get_or bytes i 0
     → bytes_in t old ≡ first ++ take i bytes → bytes_in t new ≡ first ++ take (i + 1) bytes
 cell_more t old new c first bytes i more pushed here so_far =
     rw (pushed, list.map-append (byte_in t) old (c ∷ []), so_far, list.take_more bytes i 0 more, list.append_assoc first (take i bytes) (byte_in t c ∷ []), here) refl
+
+-- cells whose bytes are the same in either order
+alike-cells : (cells : List Cell) → bytes_eq (bytes_in false cells) (bytes_in true cells) ≡ are_alike cells
+alike-cells [] = refl
+alike-cells (c ∷ cs) = ap (λ b. (c.straight == c.turned) && b) (alike-cells cs)
+
+-- the bytes of items in an order are those of their cells, and none if they have no cells
+pub ordered-cells : (o : Order) (cells : List Cell) → ordered_bytes o (Some (bytes_in false cells)) (Some (bytes_in true cells)) ≡ bytes_of_order o cells
+ordered-cells Straight cells = refl
+ordered-cells Turned cells = refl
+ordered-cells Unclear cells = ap (λ b. if b then Some (bytes_in false cells) else None) (alike-cells cells)
+
+pub ordered-none : (o : Order) → ordered_bytes o None None ≡ None
+ordered-none Straight = refl
+ordered-none Turned = refl
+ordered-none Unclear = refl
 
 -- turned twice, bytes are as they were
 pub reversed_twice : (bytes : List ℕ) → reverse (reverse bytes) ≡ bytes

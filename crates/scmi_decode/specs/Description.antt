@@ -42,23 +42,18 @@ described_free (frame.Good m) = if m.header.kind == 0 then described_response m 
 abbrev pub described_left : Bool → Frame → Description
 described_left error f = if error then is.ChannelError f else described_free f
 
--- what an area is by what a callee finds there, and else by what was left
-abbrev pub described_found : List ℕ → Option Frame → Description
-described_found area (Some f) = described_posted f
-described_found area None = described_left (status_at area / 2 % 2 == 1) (frame_of area)
+-- what an area is by what was left there, and by what a callee finds, if it finds something
+abbrev pub described_found : List ℕ → (left : Frame) → Option Frame → Description
+described_found area left (Some f) = described_posted f
+described_found area left None = described_left (status_at area / 2 % 2 == 1) left
 
 -- what an area is
 abbrev pub described_area : List ℕ → Description
-described_area area = described_found area (frame_waiting area)
-
--- what the area of a channel is by what a callee finds there, and else by what was left
-abbrev pub described_channel_found : List ℕ → Option Frame → Description
-described_channel_found area (Some f) = described_posted f
-described_channel_found area None = described_left (status_at area / 2 % 2 == 1) (channel_frame area)
+described_area area = described_found area (frame_of area) (frame_waiting area)
 
 -- what the area of a channel is, whose room its size says
 abbrev pub described_channel : List ℕ → Description
-described_channel area = described_channel_found area (channel_waiting area)
+described_channel area = described_found area (channel_frame area) (channel_waiting area)
 
 -- what an area is once a frame in it was answered
 abbrev pub described_answer : Frame → Answer → Description

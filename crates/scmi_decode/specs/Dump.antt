@@ -40,10 +40,6 @@ abbrev pub Adds : Option (List ℕ) → (added : Bool) → (old new : List ℕ) 
 Adds None added old new = added ≡ false
 Adds (Some bytes) added old new = (added ≡ true) × (new ≡ old ++ bytes)
 
--- whether an item is a number, of which the lowest byte comes first
-abbrev pub is_number : (is_turned : Bool) → List ℕ → Bool
-is_number is_turned item = has_mark item || is_turned
-
 -- the digits of an item, after its mark
 abbrev pub digits_of : List ℕ → List ℕ
 digits_of item = if has_mark item then drop 2 item else item

@@ -81,22 +81,20 @@ may_be_parts Whole fill (Some m) (Some n) = fit_one_area 0 fill m n
 may_be_parts (From offset) fill (Some m) (Some n) = fit_one_area offset fill m n
 may_be_parts l fill row line = false
 
--- a wide row: the number of its line, its line, which is empty if no row is held, how many bytes it
--- has, and why the lines beside it refuse it
+-- a wide row: the number of its line, its line, which is empty if no row is held, and why the lines
+-- beside it refuse it
 pub record HeldView : Type 0 where
   pub number : ℕ
   pub line : List ℕ
-  pub size : Option ℕ
   pub lack : Option NoBytes
 
 -- no row
 abbrev pub no_held : HeldView
-no_held = record { number = 0; line = []; size = None; lack = None }
+no_held = record { number = 0; line = []; lack = None }
 
 -- the row of a line of this number
 abbrev pub held_row : ℕ → List ℕ → Option NoBytes → HeldView
-held_row number line lack =
-    record { number = number; line = line; size = line_size line; lack = lack }
+held_row number line lack = record { number = number; line = line; lack = lack }
 
 -- whether a row is held
 abbrev pub is_held : HeldView → Bool
@@ -121,16 +119,16 @@ is_repeated lack = false
 
 -- why a row and the line behind it are refused: their first items may be addresses, or they may be
 -- parts of one area
-abbrev pub pair_lack : Layout → HeldView → (line : List ℕ) → Option NoBytes
-pair_lack l h line =
-    if counts_on h.line line then Some WideRow
-    else if may_be_parts l (filling line) h.size (line_size line) then Some Part else None
+abbrev pub pair_lack : Layout → (row line : List ℕ) → Option NoBytes
+pair_lack l row line =
+    if counts_on row line then Some WideRow
+    else if may_be_parts l (filling line) (line_size row) (line_size line) then Some Part else None
 
 -- why the row that is held and the line behind it are refused: the row repeats, or both are a pair
 abbrev pub lack_behind : Layout → HeldView → (line : List ℕ) → Option NoBytes
 lack_behind l h line =
     if not (is_held h) then None else if is_repeated h.lack then Some Repeats
-    else pair_lack l h line
+    else pair_lack l h.line line
 
 -- what is found in a row of these bytes: they are none if the row alone shows that, or else if the
 -- lines beside it refuse it

@@ -49,15 +49,17 @@ abbrev pub if_alike : (straight turned : Option (List ℕ)) → Option (List ℕ
 if_alike (Some straight) (Some turned) = if bytes_eq straight turned then Some straight else None
 if_alike _ _ = None
 
--- the bytes of items in an order; in an unclear one only if either gives the same
-abbrev pub ordered_bytes : Order → List (List ℕ) → Option (List ℕ)
-ordered_bytes Straight items = items_bytes false items
-ordered_bytes Turned items = items_bytes true items
-ordered_bytes Unclear items = if_alike (items_bytes false items) (items_bytes true items)
+-- the bytes that items have in an order; in an unclear one only if either gives the same
+abbrev pub ordered_bytes : Order → (straight turned : Option (List ℕ)) → Option (List ℕ)
+ordered_bytes Straight straight turned = straight
+ordered_bytes Turned straight turned = turned
+ordered_bytes Unclear straight turned = if_alike straight turned
 
 -- the bytes of a line that reports no message; none if it may be a row that is too wide
 abbrev pub own_bytes : List (List ℕ) → Option (List ℕ)
-own_bytes items = if is_wide_row items then None else ordered_bytes (own_order items) items
+own_bytes items =
+    if is_wide_row items then None
+    else ordered_bytes (own_order items) (items_bytes false items) (items_bytes true items)
 
 -- the bytes of a line without an event: the area of the message that an agent has got, or its own
 abbrev pub got_or_own : Option (List (List ℕ)) → List (List ℕ) → Option (List ℕ)

@@ -1,7 +1,7 @@
 //! The bytes of a dump in either order of digits, and what its column of text shows.
 ghost use Rattle.std.specs.Prelude.{◌≡◌, ◌++◌, if◌then◌else◌, false, true, reverse, IfOk, OnOk};
 ghost use Rattle.std.specs.Option.{option_map};
-ghost use Rattle.scmi_decode.specs.Cell.{are_alike, byte_in, bytes_in, cells_of, character_of, first_byte, is_zero_in, later_bytes, order_shown, settled, shows};
+ghost use Rattle.scmi_decode.specs.Cell.{are_alike, byte_in, bytes_in, bytes_of_order, cells_of, character_of, first_byte, is_zero_in, later_bytes, order_shown, settled, shows};
 
 use crate::order::Order;
 use std::alloc::{AllocError, Global};
@@ -84,14 +84,22 @@ pub(crate) fn settled(
     ensures { IfOk result (λ found.
         option_map (λ bytes. bytes.items) found ≡ settled order cells.now) }
 {
-    match order_shown(order, cells) {
-        Order::Straight => Ok(Some(bytes_in(alloc, false, cells)?)),
+    bytes_of_order(alloc, order_shown(order, cells), cells)
+}
+
+/// The bytes of cells in an order; of an unclear one only if both are the same.
+pub(crate) fn bytes_of_order(
+    alloc: Global,
+    order: Order,
+    cells: &[Cell],
+) -> Result<Option<Vec<u8>>, AllocError>
+    ensures { IfOk result (λ found.
+        option_map (λ bytes. bytes.items) found ≡ bytes_of_order order cells.now) }
+{
+    match order {
+        Order::Unclear if !are_alike(cells) => Ok(None),
         Order::Turned => Ok(Some(bytes_in(alloc, true, cells)?)),
-        Order::Unclear => if are_alike(cells) {
-            Ok(Some(bytes_in(alloc, false, cells)?))
-        } else {
-            Ok(None)
-        },
+        Order::Straight | Order::Unclear => Ok(Some(bytes_in(alloc, false, cells)?)),
     }
 }
 
@@ -123,7 +131,7 @@ fn are_alike(cells: &[Cell]) -> bool
 }
 
 /// The bytes of cells in one order.
-fn bytes_in(alloc: Global, turned: bool, cells: &[Cell]) -> Result<Vec<u8>, AllocError>
+pub(crate) fn bytes_in(alloc: Global, turned: bool, cells: &[Cell]) -> Result<Vec<u8>, AllocError>
     ensures { IfOk result (λ bytes. bytes.items ≡ bytes_in turned cells.now) }
 {
     cells

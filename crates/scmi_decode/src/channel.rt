@@ -1,9 +1,9 @@
 //! What the area of a channel is, of the size that its board gives it.
 ghost use Rattle.std.specs.Prelude.{◌≡◌, Ok, Err, true, false, length};
-ghost use Rattle.scmi_codec.specs.ChannelArea.{is_channel_size};
+ghost use Rattle.scmi_codec.specs.ChannelArea.{channel_frame, is_channel_size};
 ghost use Rattle.scmi_codec.specs.declared.area.TheConstants.{AREA_BYTES};
 ghost use Rattle.scmi_codec.specs.declared.channel_area.ChannelAreaError.{ChannelAreaError};
-ghost use Rattle.scmi_decode.specs.Description.{described_area, described_channel};
+ghost use Rattle.scmi_decode.specs.Description.{described_area, described_channel, described_found};
 
 use crate::describing::{describe_left, describe_posted, has_error};
 use crate::description::Description;
@@ -19,8 +19,17 @@ pub fn describe_channel(area: &[u8]) -> Result<Description, ChannelAreaError>
     ensures wrong_size { is_channel_size (length area.now) ≡ false
         → result ≡ Err ChannelAreaError.WrongSize }
 {
-    match read_channel_area(area)? {
-        Some(frame) => Ok(describe_posted(frame)),
-        None => Ok(describe_left(has_error(area), channel_frame(area))),
+    let waiting = read_channel_area(area)?;
+    Ok(describe_found(area, waiting))
+}
+
+/// The same by what a callee finds there, if it finds something.
+fn describe_found(area: &[u8], waiting: Option<Frame>) -> Description
+    requires size { is_channel_size (length area.now) ≡ true }
+    ensures { result ≡ described_found area.now (channel_frame area.now) waiting }
+{
+    match waiting {
+        Some(frame) => describe_posted(frame),
+        None => describe_left(has_error(area), channel_frame(area)),
     }
 }

@@ -8,7 +8,7 @@ use std::alloc::AllocError;
 use thiserror::Error;
 
 /// Why an input is not decoded. Its text is what follows the word `fault`.
-#[derive(Clone, Copy, Debug, PartialEq, Eq, Error)]
+#[derive(Clone, Copy, Debug, Error)]
 pub enum DecodeError {
     /// A line is longer than `INPUT_BYTES`.
     #[error("size")]

@@ -1,11 +1,11 @@
-//! The bytes of a line of a dump.
+//! The bytes of a line of a dump, in either order of its digits.
 ghost use Rattle.std.specs.Prelude.{◌≡◌, ◌/◌, [], false, true, IfOk, map, length};
 ghost use Rattle.std.specs.Option.{option_map};
 ghost use Rattle.scmi_decode.specs.Cell.{bytes_in};
-ghost use Rattle.scmi_decode.specs.Dump.{Adds, bytes_of, digits_of, is_number, has_mark, item_bytes, items_bytes, line_bytes};
+ghost use Rattle.scmi_decode.specs.Dump.{Adds, bytes_of, digits_of, has_mark, item_bytes, items_bytes, line_bytes};
 
 use crate::cell::{Cell, add_bytes};
-use crate::lines::is_gap;
+use crate::lines::items_of;
 use crate::row::ROW_BYTES;
 use hex::FromHexError;
 use std::alloc::{AllocError, Global};
@@ -13,36 +13,29 @@ use std::alloc::{AllocError, Global};
 /// An item of at most this many digits takes no memory of its own (own).
 const SHORT_DIGITS: usize = 64;
 
-/// The bytes of items, in order, `None` if an item of them is of another form. An item is bytes of two
-/// hexadecimal digits each; or a number, its lowest byte first: `0x` and digits, or any digits if
-/// they are turned. The only possible error: out of memory.
-pub(crate) fn items_bytes(
-    alloc: Global,
-    turned: bool,
-    items: &[&[u8]],
-) -> Result<Option<Vec<u8>>, AllocError>
-    ensures { IfOk result (λ found. option_map (λ bytes. bytes.items) found ≡
-        items_bytes turned (map (λ item. item.now) items.now)) }
-{
-    let mut all = Vec::with_capacity(alloc, ROW_BYTES)?;
-    'items: for item in items {
-        if !add_item(alloc, turned, &mut all, *item)? {
-            return Ok(None);
-        }
-    }
-    Ok(Some(all))
-}
-
 /// The cells of a line, of which no column of text shows anything yet; `None` if an item of it has no
 /// bytes. The only error is out of memory.
 pub(crate) fn line_cells(alloc: Global, line: &[u8]) -> Result<Option<Vec<Cell>>, AllocError>
-    ensures { IfOk result (λ found.
-        (option_map (λ cells. bytes_in false cells.items) found ≡ line_bytes false line.now)
-        × (option_map (λ cells. bytes_in true cells.items) found ≡ line_bytes true line.now)) }
+    ensures straight { IfOk result (λ found.
+        option_map (λ cells. bytes_in false cells.items) found ≡ line_bytes false line.now) }
+    ensures turned { IfOk result (λ found.
+        option_map (λ cells. bytes_in true cells.items) found ≡ line_bytes true line.now) }
+{
+    let items = items_of(alloc, line)?;
+    items_cells(alloc, items.as_slice())
+}
+
+/// The same of items. An item is bytes of two hexadecimal digits each; or a number, its lowest byte
+/// first: `0x` and digits, or any digits if they are turned.
+pub(crate) fn items_cells(alloc: Global, items: &[&[u8]]) -> Result<Option<Vec<Cell>>, AllocError>
+    ensures straight { IfOk result (λ found. option_map (λ cells. bytes_in false cells.items) found
+        ≡ items_bytes false (map (λ item. item.now) items.now)) }
+    ensures turned { IfOk result (λ found. option_map (λ cells. bytes_in true cells.items) found
+        ≡ items_bytes true (map (λ item. item.now) items.now)) }
 {
     let mut cells = Vec::with_capacity(alloc, ROW_BYTES)?;
-    'items: for item in line.split(|byte| is_gap(*byte)) {
-        if !add_cells(alloc, &mut cells, item)? {
+    'items: for item in items {
+        if !add_cells(alloc, &mut cells, *item)? {
             return Ok(None);
         }
     }
@@ -74,54 +67,12 @@ fn add_cells(alloc: Global, cells: &mut Vec<Cell>, item: &[u8]) -> Result<bool, 
     Ok(true)
 }
 
-/// Adds the bytes of an item, and gives whether it has some.
-fn add_item(alloc: Global, turned: bool, all: &mut Vec<u8>, item: &[u8]) -> Result<bool, AllocError>
-    ensures { IfOk result (λ added. Adds (item_bytes turned item.now) added all.old.items all.new.items) }
-{
-    if item.len() > SHORT_DIGITS {
-        return add_long(alloc, turned, all, item);
-    }
-    let mut buffer = [0; SHORT_DIGITS];
-    let digits = digits_of(item);
-    let short = &mut buffer[..digits.len() / 2];
-    if !decode_digits(digits, short) {
-        return Ok(false);
-    }
-    if is_number(turned, item) {
-        short.reverse();
-    }
-    all.extend_from_slice(short)?;
-    Ok(true)
-}
-
-/// Adds the bytes of an item of any length.
-fn add_long(alloc: Global, turned: bool, all: &mut Vec<u8>, item: &[u8]) -> Result<bool, AllocError>
-    ensures { IfOk result (λ added. Adds (item_bytes turned item.now) added all.old.items all.new.items) }
-{
-    let Some(mut bytes) = bytes_of(alloc, digits_of(item))? else {
-        return Ok(false);
-    };
-    if is_number(turned, item) {
-        bytes.reverse();
-    }
-    all.extend_from_slice(&bytes)?;
-    Ok(true)
-}
-
 /// Decodes digits, two for each byte, into as many bytes, and gives whether they are digits.
 fn decode_digits(digits: &[u8], bytes: &mut [u8]) -> bool
     requires room { length bytes.old ≡ length digits.now / 2 }
     ensures { Adds (bytes_of digits.now) result [] bytes.new }
 {
     hex::decode_to_slice(digits, bytes).is_ok()
-}
-
-/// Whether an item is a number, of which the lowest byte comes first: it has its mark, or digits are
-/// turned.
-fn is_number(turned: bool, item: &[u8]) -> bool
-    ensures { result ≡ is_number turned item.now }
-{
-    has_mark(item) || turned
 }
 
 /// The digits of an item, after its mark.

@@ -20,15 +20,15 @@ mod repeated;
 /// first items if these may be addresses.
 #[derive(Drop)]
 pub(crate) struct DumpEnd {
-    next: u64,
-    width: usize,
-    group: usize,
-    order: Order,
-    repeats: bool,
-    unclear: bool,
-    column: FirstColumn,
-    cells: Vec<Cell>,
-    bare: Vec<Cell>,
+    pub(crate) next: u64,
+    pub(crate) width: usize,
+    pub(crate) group: usize,
+    pub(crate) order: Order,
+    pub(crate) repeats: bool,
+    pub(crate) unclear: bool,
+    pub(crate) column: FirstColumn,
+    pub(crate) cells: Vec<Cell>,
+    pub(crate) bare: Vec<Cell>,
 }
 
 impl Model for DumpEnd {
@@ -67,27 +67,6 @@ impl DumpEnd {
         }
     }
 
-    /// The bytes of the rows.
-    pub(crate) fn cells(&self) -> &[Cell]
-        ensures { result.now ≡ self.now.cells }
-    {
-        self.cells.as_slice()
-    }
-
-    /// In which order the digits of the first row are.
-    pub(crate) fn order(&self) -> Order
-        ensures { result ≡ self.now.order }
-    {
-        self.order
-    }
-
-    /// Whether it is unclear how often a row of it repeats.
-    pub(crate) fn is_unclear(&self) -> bool
-        ensures { result ≡ self.now.unclear }
-    {
-        self.unclear
-    }
-
     /// The addresses that the first items of the rows may be.
     pub(crate) fn column(&self) -> FirstColumn
         ensures { result ≡ self.now.column }
@@ -100,14 +79,14 @@ impl DumpEnd {
     pub(crate) fn takes(&self, row: &Row) -> bool
         ensures { result ≡ takes self.now row.now }
     {
-        self.has_its_groups(row) && self.is_even() && row.cells().len() <= self.width
+        self.has_its_groups(row) && self.is_even() && row.cells.len() <= self.width
     }
 
     /// Whether the groups of a row are those of the first row; those of a shorter row may be shorter.
     fn has_its_groups(&self, row: &Row) -> bool
         ensures { result ≡ has_its_groups self.now row.now }
     {
-        row.group() == self.group || row.group() < self.group && row.cells().len() < self.width
+        row.group == self.group || row.group < self.group && row.cells.len() < self.width
     }
 
     /// Whether the rows so far have the same length.
@@ -175,13 +154,13 @@ impl DumpEnd {
     fn extend(&mut self, row: &Row) -> Result<(), AllocError>
         ensures { OnOk result (self.new ≡ extended self.old row.now) }
     {
-        self.cells.extend_from_slice(row.cells())?;
+        self.cells.extend_from_slice(row.cells.as_slice())?;
         let bare = row_bare(row);
         if !bare.is_empty() {
             self.bare.extend_from_slice(bare)?;
         }
         self.next = address_after(row);
-        self.group = row.group();
+        self.group = row.group;
         self.column = column_with(self.column, row);
         Ok(())
     }
@@ -190,7 +169,7 @@ impl DumpEnd {
     pub(crate) fn extend_to(&mut self, alloc: Global, row: &Row) -> Result<(), AllocError>
         ensures { OnOk result (self.new ≡ extended_to self.old row.now) }
     {
-        self.fill(alloc, row.address())?;
+        self.fill(alloc, row.address)?;
         self.extend(row)
     }
 
@@ -200,13 +179,13 @@ impl DumpEnd {
         ensures { OnOk result (self.new ≡ end_of row.now) }
     {
         self.cells.clear();
-        self.cells.extend_from_slice(row.cells())?;
+        self.cells.extend_from_slice(row.cells.as_slice())?;
         self.bare.clear();
         self.bare.extend_from_slice(row_bare(row))?;
         self.next = address_after(row);
-        self.width = row.cells().len();
-        self.group = row.group();
-        self.order = row.order();
+        self.width = row.cells.len();
+        self.group = row.group;
+        self.order = row.order;
         self.repeats = false;
         self.unclear = false;
         self.column = column_begun(row);
@@ -272,15 +251,15 @@ fn are_zeros(order: Order, before: &[Cell], behind: &[Cell]) -> bool
 fn address_after(row: &Row) -> u64
     ensures { result ≡ (row.now.address + length row.now.cells) % 2 ^ 64 }
 {
-    row.address().wrapping_add(row.cells().len() as u64)
+    row.address.wrapping_add(row.cells.len() as u64)
 }
 
 /// The bytes of a row without its first item, if that may be an address.
 pub(crate) fn row_bare(row: &Row) -> &[Cell]
     ensures { result.now ≡ row_bare row.now }
 {
-    if has_base(row.column()) {
-        &row.cells()[(row.group() / 2).min(row.cells().len())..]
+    if has_base(row.column) {
+        &row.cells[(row.group / 2).min(row.cells.len())..]
     } else {
         &[]
     }
@@ -294,7 +273,7 @@ fn column_begun(row: &Row) -> FirstColumn
     if count == 0 {
         no_column()
     } else {
-        column_after(count, row.column())
+        column_after(count, row.column)
     }
 }
 
@@ -302,7 +281,7 @@ fn column_begun(row: &Row) -> FirstColumn
 fn column_with(column: FirstColumn, row: &Row) -> FirstColumn
     ensures { result ≡ column_with column row.now }
 {
-    followed(slack_of(row), bytes_after_group(row), column, row.column())
+    followed(slack_of(row), bytes_after_group(row), column, row.column)
 }
 
 /// How many bytes the item of a row may be less than the expected address: an address alone, after a
@@ -311,7 +290,7 @@ fn slack_of(row: &Row) -> usize
     ensures { result ≡ slack_of row.now }
 {
     if bytes_after_group(row) == 0 {
-        (row.group() / 2).saturating_sub(1)
+        (row.group / 2).saturating_sub(1)
     } else {
         0
     }
@@ -321,5 +300,5 @@ fn slack_of(row: &Row) -> usize
 fn bytes_after_group(row: &Row) -> usize
     ensures { result ≡ bytes_after_group row.now }
 {
-    row.cells().len().saturating_sub(row.group() / 2)
+    row.cells.len().saturating_sub(row.group / 2)
 }

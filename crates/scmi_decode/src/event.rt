@@ -14,7 +14,7 @@ use scmi_codec::Header;
 use std::alloc::{AllocError, Global};
 
 /// What an event is of.
-#[derive(Clone, Copy, PartialEq, Eq)]
+#[derive(Clone, Copy)]
 pub enum EventKind {
     Command,
     Response,

@@ -142,8 +142,5 @@ fn statistics_field(words: &[u32]) -> Field
 fn word_at(words: &[u32], at: usize) -> u32
     ensures { result ≡ slice_index words.now at }
 {
-    match words.get(at) {
-        Some(word) => *word,
-        None => 0,
-    }
+    if at < words.len() { words[at] } else { 0 }
 }

@@ -1,7 +1,7 @@
 //! The forms of rows.
 
 /// How a row of a dump marks the place of its bytes.
-#[derive(Clone, Copy, PartialEq, Eq)]
+#[derive(Clone, Copy)]
 pub enum Form {
     /// No address: `xxd -p`, `od -An`, one value a line.
     Plain,

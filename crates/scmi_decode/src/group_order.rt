@@ -107,7 +107,7 @@ pub(crate) fn are_bits(form: Form, groups: &[u8], column: &[u8]) -> bool
     ensures { result ≡ are_bits form groups.now column.now }
 {
     let shown = without_return(after_gap(column)).len();
-    form == Form::Marked
+    matches!(form, Form::Marked)
         && first_item(groups).len() == 8
         && shown > 0
         && shown <= groups.len() / 9 + 1

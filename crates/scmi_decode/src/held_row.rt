@@ -2,7 +2,7 @@
 ghost use Rattle.std.specs.Prelude.{◌≡◌, OnOk, IfOk, map};
 ghost use Rattle.scmi_decode.specs.HeldRow.{address_column, column_behind, are_wide, counts_on, filling, fit_one_area, held_row, is_held, is_more, is_repeated, is_wide_line, items_size, judged_row, lack_behind, line_size, may_be_parts, next_column, no_held, pair_lack, released, repeated_row, slack_behind};
 
-use crate::dump::items_bytes;
+use crate::dump::items_cells;
 use crate::first_column::{FirstColumn, column_after, has_base, met_by, no_column};
 use crate::layout::Layout;
 use crate::lines::items_of;
@@ -16,14 +16,12 @@ use std::alloc::{AllocError, Global};
 use std::marker::Model;
 
 /// A wide row, which is held since it and the line behind it may be of one dump: the number of its
-/// line, its line, which is empty if no row is held, how many bytes it has, and why the lines beside
-/// it refuse it.
+/// line, its line, which is empty if no row is held, and why the lines beside it refuse it.
 #[derive(Drop)]
 pub(crate) struct HeldRow {
-    number: usize,
-    line: Vec<u8>,
-    size: Option<usize>,
-    lack: Option<NoBytes>,
+    pub(crate) number: usize,
+    pub(crate) line: Vec<u8>,
+    pub(crate) lack: Option<NoBytes>,
 }
 
 impl Model for HeldRow {
@@ -34,7 +32,6 @@ impl Model for HeldRow {
     ghost view = { λ h. record {
       number = h.number;
       line = h.line.items;
-      size = h.size;
       lack = h.lack;
     } };
 }
@@ -47,7 +44,6 @@ impl HeldRow {
         HeldRow {
             number: 0,
             line: Vec::new(alloc),
-            size: None,
             lack: None,
         }
     }
@@ -59,39 +55,18 @@ impl HeldRow {
         !self.line.is_empty()
     }
 
-    pub(crate) fn number(&self) -> usize
-        ensures { result ≡ self.now.number }
-    {
-        self.number
-    }
-
-    pub(crate) fn line(&self) -> &[u8]
-        ensures { result.now ≡ self.now.line }
-    {
-        self.line.as_slice()
-    }
-
-    pub(crate) fn lack(&self) -> Option<NoBytes>
-        ensures { result ≡ self.now.lack }
-    {
-        self.lack
-    }
-
-    /// Holds the row of a line of this number and size, and why the line before refuses it.
+    /// Holds the row of a line of this number, and why the line before refuses it.
     pub(crate) fn hold(
         &mut self,
         number: usize,
         line: &[u8],
-        size: Option<usize>,
         lack: Option<NoBytes>,
     ) -> Result<(), AllocError>
-        requires size { size ≡ line_size line.now }
         ensures { OnOk result (self.new ≡ held_row number line.now lack) }
     {
         self.line.clear();
         self.line.extend_from_slice(line)?;
         self.number = number;
-        self.size = size;
         self.lack = lack;
         Ok(())
     }
@@ -121,15 +96,13 @@ impl HeldRow {
         self.lack = Some(NoBytes::Repeats);
     }
 
-    /// Why the row and the line behind it, of this size, are refused. The only error is out of memory.
+    /// Why the row and the line behind it are refused. The only error is out of memory.
     pub(crate) fn lack_behind(
         &self,
         alloc: Global,
         layout: Layout,
         line: &[u8],
-        size: Option<usize>,
     ) -> Result<Option<NoBytes>, AllocError>
-        requires size { size ≡ line_size line.now }
         ensures { IfOk result (λ lack. lack ≡ lack_behind layout self.now line.now) }
     {
         if !self.is_held() {
@@ -137,28 +110,29 @@ impl HeldRow {
         } else if is_repeated(self.lack) {
             Ok(Some(NoBytes::Repeats))
         } else {
-            self.pair_lack(alloc, layout, line, size)
+            pair_lack(alloc, layout, self.line.as_slice(), line)
         }
     }
+}
 
-    /// Why the row and the line behind it are refused, if it does not repeat.
-    fn pair_lack(
-        &self,
-        alloc: Global,
-        layout: Layout,
-        line: &[u8],
-        size: Option<usize>,
-    ) -> Result<Option<NoBytes>, AllocError>
-        requires size { size ≡ line_size line.now }
-        ensures { IfOk result (λ lack. lack ≡ pair_lack layout self.now line.now) }
-    {
-        if counts_on(alloc, self.line(), line)? {
-            Ok(Some(NoBytes::WideRow))
-        } else if may_be_parts(layout, filling(line), self.size, size) {
-            Ok(Some(NoBytes::Part))
-        } else {
-            Ok(None)
-        }
+/// Why a row that does not repeat and the line behind it are refused.
+fn pair_lack(
+    alloc: Global,
+    layout: Layout,
+    row: &[u8],
+    line: &[u8],
+) -> Result<Option<NoBytes>, AllocError>
+    ensures { IfOk result (λ lack. lack ≡ pair_lack layout row.now line.now) }
+{
+    if counts_on(alloc, row, line)? {
+        return Ok(Some(NoBytes::WideRow));
+    }
+    let size = line_size(alloc, row)?;
+    let behind = line_size(alloc, line)?;
+    if may_be_parts(layout, filling(line), size, behind) {
+        Ok(Some(NoBytes::Part))
+    } else {
+        Ok(None)
     }
 }
 
@@ -252,18 +226,13 @@ fn address_column(item: &[u8]) -> FirstColumn
     }
 }
 
-/// How many bytes a line has, if each of its items has some, and whether it is a wide row. The only
-/// error is out of memory.
-pub(crate) fn size_and_width(
-    alloc: Global,
-    line: &[u8],
-) -> Result<(Option<usize>, bool), AllocError>
-    ensures size { IfOk result (λ both. both.0 ≡ line_size line.now) }
-    ensures is_wide { IfOk result (λ both. both.1 ≡ is_wide_line line.now) }
+/// Whether a line is a wide row. The only error is out of memory.
+pub(crate) fn is_wide_line(alloc: Global, line: &[u8]) -> Result<bool, AllocError>
+    ensures { IfOk result (λ is_wide. is_wide ≡ is_wide_line line.now) }
 {
     let items = items_of(alloc, line)?;
     let size = items_size(alloc, items.as_slice())?;
-    Ok((size, are_wide(items.as_slice(), size)))
+    Ok(are_wide(items.as_slice(), size))
 }
 
 /// Whether items of so many bytes are a wide row: they report no message, and have more bytes than a
@@ -285,7 +254,7 @@ fn is_more(size: Option<usize>) -> bool
 }
 
 /// How many bytes a line has, if each of its items has some.
-pub(crate) fn line_size(alloc: Global, line: &[u8]) -> Result<Option<usize>, AllocError>
+fn line_size(alloc: Global, line: &[u8]) -> Result<Option<usize>, AllocError>
     ensures { IfOk result (λ size. size ≡ line_size line.now) }
 {
     let items = items_of(alloc, line)?;
@@ -296,8 +265,8 @@ pub(crate) fn line_size(alloc: Global, line: &[u8]) -> Result<Option<usize>, All
 fn items_size(alloc: Global, items: &[&[u8]]) -> Result<Option<usize>, AllocError>
     ensures { IfOk result (λ size. size ≡ items_size (map (λ item. item.now) items.now)) }
 {
-    match items_bytes(alloc, false, items)? {
-        Some(bytes) => Ok(Some(bytes.len())),
+    match items_cells(alloc, items)? {
+        Some(cells) => Ok(Some(cells.len())),
         None => Ok(None),
     }
 }

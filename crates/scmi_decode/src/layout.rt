@@ -37,7 +37,7 @@ impl Pieces {
 }
 
 /// Why numbers are no layout.
-#[derive(Clone, Copy, PartialEq, Eq, Debug)]
+#[derive(Clone, Copy)]
 pub enum LayoutError {
     /// No area has this size.
     Size,

@@ -66,14 +66,13 @@ fn report_held<S: Findings>(
     ensures area { IfOk result (λ read. is_some read ≡ any_area (held_found layout row.now)) }
     ensures errors { IfErr result (λ e. (e ≡ DecodeError.Memory) ⊎ (e ≡ DecodeError.Write)) }
 {
-    let items = items_of(alloc, row.line())?;
+    let items = items_of(alloc, row.line.as_slice())?;
     let own = alone_bytes(alloc, items.as_slice())?;
-    let (found, lack) = match (own, row.lack()) {
+    let (found, lack) = match (own, row.lack) {
         (Some(_), Some(lack)) => (None, lack),
         (own, _) => (own, items_lack(alloc, items.as_slice())?),
     };
-    let number = row.number();
-    if report_dump(sink, layout, number, row.line(), lack, &found)? {
+    if report_dump(sink, layout, row.number, row.line.as_slice(), lack, &found)? {
         Ok(Some(alone_reading(items.as_slice())))
     } else {
         Ok(None)
@@ -92,14 +91,14 @@ pub(crate) fn report_open<S: Findings>(
     ensures area { IfOk result (λ read. is_some read ≡ any_area (dump_found dump.now)) }
     ensures errors { IfErr result (λ e. (e ≡ DecodeError.Memory) ⊎ (e ≡ DecodeError.Write)) }
 {
-    if dump.held().is_held() {
-        return report_held(alloc, sink, dump.layout(), dump.held());
+    if dump.held.is_held() {
+        return report_held(alloc, sink, dump.layout, &dump.held);
     }
     if !dump.is_open() {
         return Ok(None);
     }
     let found = dump.bytes(alloc)?;
-    if report_dump(sink, dump.layout(), dump.first(), &[], dump.lack(), &found)? {
+    if report_dump(sink, dump.layout, dump.first, &[], dump.lack(), &found)? {
         Ok(Some(dump.reading()))
     } else {
         Ok(None)

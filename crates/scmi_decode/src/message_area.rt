@@ -1,5 +1,5 @@
 //! The area that holds a message.
-ghost use Rattle.std.specs.Prelude.{◌≡◌, IfOk, true, replicate};
+ghost use Rattle.std.specs.Prelude.{◌≡◌, IfOk, true};
 ghost use Rattle.std.specs.Option.{option_map};
 ghost use Rattle.scmi_decode.specs.MessageArea.{fits_area, message_area, message_start, padded};
 
@@ -37,10 +37,10 @@ fn message_start(alloc: Global, status: u32, message: &[u8]) -> Result<Vec<u8>, 
     requires fits { fits_area message.now ≡ true }
     ensures { IfOk result (λ start. start.items ≡ message_start status message.now) }
 {
-    let mut start = zeros(alloc, 4)?;
+    let mut start = Vec::with_capacity(alloc, AREA_BYTES)?;
+    start.extend_from_slice(&[0; 4])?;
     start.extend_from_slice(&status.to_le_bytes())?;
-    let between = zeros(alloc, 12)?;
-    start.extend_from_slice(between.as_slice())?;
+    start.extend_from_slice(&[0; 12])?;
     start.extend_from_slice(&(message.len() as u32).to_le_bytes())?;
     start.extend_from_slice(message)?;
     Ok(start)
@@ -50,15 +50,7 @@ fn message_start(alloc: Global, status: u32, message: &[u8]) -> Result<Vec<u8>, 
 fn padded(alloc: Global, mut bytes: Vec<u8>) -> Result<Vec<u8>, AllocError>
     ensures { IfOk result (λ all. all.items ≡ padded bytes.items) }
 {
-    let zeros = zeros(alloc, AREA_BYTES.saturating_sub(bytes.len()))?;
+    let zeros = vec![in alloc; 0u8; AREA_BYTES.saturating_sub(bytes.len())]?;
     bytes.extend_from_slice(zeros.as_slice())?;
     Ok(bytes)
-}
-
-/// Zeros, as many as the number.
-fn zeros(alloc: Global, count: usize) -> Result<Vec<u8>, AllocError>
-    ensures { IfOk result (λ all. all.items ≡ replicate count 0) }
-{
-    let zeros = vec![in alloc; 0u8; count]?;
-    Ok(zeros)
 }

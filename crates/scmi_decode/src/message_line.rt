@@ -1,10 +1,10 @@
 //! Lines that report a message: of Linux's event `scmi_msg_dump`, or of a script.
 ghost use Rattle.std.specs.Prelude.{◌≡◌, IfOk, map};
 ghost use Rattle.std.specs.Option.{option_map};
-ghost use Rattle.scmi_decode.specs.MessageLine.{behind_event, behind_got, got_or_own, is_agent, is_got, is_message, items_alone, items_lack, items_layout, ordered_bytes, own_bytes, own_order};
-ghost use Rattle.scmi_decode.specs.declared.order.Order.TheVariants.{Unclear};
+ghost use Rattle.scmi_decode.specs.MessageLine.{behind_event, behind_got, got_or_own, is_agent, is_got, is_message, items_alone, items_lack, items_layout, own_bytes, own_order};
 
-use crate::dump::items_bytes;
+use crate::cell::{bytes_in, bytes_of_order};
+use crate::dump::items_cells;
 use crate::event::{digits_number, event_area};
 use crate::form::Form;
 use crate::group_order::{group_of, order_of};
@@ -52,10 +52,11 @@ fn got_or_own(alloc: Global, items: &[&[u8]]) -> Result<Option<Vec<u8>>, AllocEr
     let Some(behind) = behind_got(items) else {
         return own_bytes(alloc, items);
     };
-    match items_bytes(alloc, true, behind)? {
-        Some(message) => message_area(alloc, 1, message.as_slice()),
-        None => Ok(None),
-    }
+    let Some(cells) = items_cells(alloc, behind)? else {
+        return Ok(None);
+    };
+    let message = bytes_in(alloc, true, cells.as_slice())?;
+    message_area(alloc, 1, message.as_slice())
 }
 
 /// The bytes of a line that reports no message; none if it may be a row that is too wide.
@@ -66,7 +67,10 @@ fn own_bytes(alloc: Global, items: &[&[u8]]) -> Result<Option<Vec<u8>>, AllocErr
     if is_wide_row(items) {
         return Ok(None);
     }
-    ordered_bytes(alloc, own_order(items), items)
+    match items_cells(alloc, items)? {
+        Some(cells) => bytes_of_order(alloc, own_order(items), cells.as_slice()),
+        None => Ok(None),
+    }
 }
 
 /// The order of the digits of a line that has several items.
@@ -74,40 +78,6 @@ fn own_order(items: &[&[u8]]) -> Order
     ensures { result ≡ own_order (map (λ item. item.now) items.now) }
 {
     order_of(Form::Plain, group_of(first_full(items)), 0, false)
-}
-
-/// The bytes of items in an order; in an unclear one only if either gives the same.
-fn ordered_bytes(
-    alloc: Global,
-    order: Order,
-    items: &[&[u8]],
-) -> Result<Option<Vec<u8>>, AllocError>
-    ensures { IfOk result (λ found. option_map (λ bytes. bytes.items) found ≡
-        ordered_bytes order (map (λ item. item.now) items.now)) }
-{
-    match order {
-        Order::Straight => items_bytes(alloc, false, items),
-        Order::Turned => items_bytes(alloc, true, items),
-        Order::Unclear => alike_bytes(alloc, items),
-    }
-}
-
-/// The bytes of items, if they are the same in either order.
-fn alike_bytes(alloc: Global, items: &[&[u8]]) -> Result<Option<Vec<u8>>, AllocError>
-    ensures { IfOk result (λ found. option_map (λ bytes. bytes.items) found ≡
-        ordered_bytes Unclear (map (λ item. item.now) items.now)) }
-{
-    let Some(straight) = items_bytes(alloc, false, items)? else {
-        return Ok(None);
-    };
-    let Some(turned) = items_bytes(alloc, true, items)? else {
-        return Ok(None);
-    };
-    if straight.as_slice() == turned.as_slice() {
-        Ok(Some(straight))
-    } else {
-        Ok(None)
-    }
 }
 
 /// Which bytes of a line that is a dump of its own are areas: a message that is reported is one area,
@@ -135,7 +105,7 @@ pub(crate) fn items_lack(alloc: Global, items: &[&[u8]]) -> Result<NoBytes, Allo
 {
     if !is_message(items) && is_wide_row(items) {
         Ok(NoBytes::WideRow)
-    } else if items_bytes(alloc, false, items)?.is_some() {
+    } else if items_cells(alloc, items)?.is_some() {
         Ok(NoBytes::Order)
     } else {
         Ok(NoBytes::Digits)

@@ -1,7 +1,7 @@
 //! Why a dump has no bytes.
 
 /// Why a dump has no bytes.
-#[derive(Clone, Copy, PartialEq, Eq)]
+#[derive(Clone, Copy)]
 pub enum NoBytes {
     /// It has other items than hexadecimal digits.
     Digits,

@@ -3,7 +3,7 @@ ghost use Rattle.std.specs.Prelude.{◌≡◌, OnOk, IfOk};
 ghost use Rattle.std.specs.Option.{is_some, option_map};
 ghost use Rattle.scmi_decode.specs.Finding.{any_area};
 ghost use Rattle.scmi_decode.specs.OpenDump.{added, begun, beside, closed, dump_bytes, dump_found, dump_lack, end_at, end_repeated, ended, form_repeated, goes_on, has_addresses, holding, is_open, is_star, judged_by, may_repeat, no_dump, or_row, repeated, row_at, rows_repeated, same_form, seen};
-ghost use Rattle.scmi_decode.specs.HeldRow.{lack_behind, line_size};
+ghost use Rattle.scmi_decode.specs.HeldRow.{lack_behind};
 
 use crate::cell::{order_shown, settled};
 use crate::dump_end::{DumpEnd, row_bare};
@@ -24,12 +24,12 @@ use std::marker::Model;
 /// read is beside what a contract sees.
 #[derive(Drop)]
 pub(crate) struct OpenDump {
-    layout: Layout,
-    first: usize,
+    pub(crate) layout: Layout,
+    pub(crate) first: usize,
     form: Form,
     end: DumpEnd,
-    held: HeldRow,
-    found: bool,
+    pub(crate) held: HeldRow,
+    pub(crate) found: bool,
     has_wide_marks: bool,
     unsaid: Unsaid,
 }
@@ -70,28 +70,7 @@ impl OpenDump {
     pub(crate) fn is_open(&self) -> bool
         ensures { result ≡ is_open self.now }
     {
-        !self.end.cells().is_empty()
-    }
-
-    /// The wide row that it is, if it is one.
-    pub(crate) fn held(&self) -> &HeldRow
-        ensures { result.now ≡ self.now.held }
-    {
-        &self.held
-    }
-
-    /// Which of its bytes are areas.
-    pub(crate) fn layout(&self) -> Layout
-        ensures { result ≡ self.now.layout }
-    {
-        self.layout
-    }
-
-    /// The number of its first line.
-    pub(crate) fn first(&self) -> usize
-        ensures { result ≡ self.now.first }
-    {
-        self.first
+        !self.end.cells.is_empty()
     }
 
     /// Its bytes, in the order of its digits; `None` if that is unclear, if its first column may be one
@@ -100,28 +79,21 @@ impl OpenDump {
         ensures { IfOk result (λ found.
             option_map (λ bytes. bytes.items) found ≡ dump_bytes self.now) }
     {
-        if self.end.lacks_rows() || counts(self.end.column()) {
+        if self.end.lacks_rows() || counts(self.end.column) {
             return Ok(None);
         }
-        settled(alloc, self.end.order(), self.end.cells())
+        settled(alloc, self.end.order, self.end.cells.as_slice())
     }
 
     /// Why it has no bytes, if it has none.
     pub(crate) fn lack(&self) -> NoBytes
         ensures { result ≡ dump_lack self.now }
     {
-        if self.end.lacks_rows() && !counts(self.end.column()) {
+        if self.end.lacks_rows() && !counts(self.end.column) {
             NoBytes::Repeats
         } else {
-            lack_beside(self.end.column())
+            lack_beside(self.end.column)
         }
-    }
-
-    /// Whether an area was found.
-    pub(crate) fn found(&self) -> bool
-        ensures { result ≡ self.now.found }
-    {
-        self.found
     }
 
     /// A row as it is after the rows of the dump, if that is not as it is alone: if these have
@@ -129,7 +101,7 @@ impl OpenDump {
     pub(crate) fn see(&self, alloc: Global, row: &Row) -> Result<Option<Row>, AllocError>
         ensures { IfOk result (λ other. or_row other row.now ≡ seen self.now row.now) }
     {
-        if same_form(self.form, Form::Offset) && same_form(row.form(), Form::Plain) {
+        if same_form(self.form, Form::Offset) && same_form(row.form, Form::Plain) {
             row_at(alloc, row)
         } else {
             Ok(None)
@@ -142,9 +114,9 @@ impl OpenDump {
         ensures { result ≡ goes_on self.now row.now }
     {
         self.is_open()
-            && same_form(self.form, row.form())
+            && same_form(self.form, row.form)
             && self.end.takes(row)
-            && (same_form(row.form(), Form::Plain) || self.end.reaches(row.address()))
+            && (same_form(row.form, Form::Plain) || self.end.reaches(row.address))
     }
 
     /// Ends at an address: the last row is repeated up to there, or what fills the last group is left
@@ -171,7 +143,7 @@ impl OpenDump {
     {
         self.end.begin(row)?;
         self.first = number;
-        self.form = row.form();
+        self.form = row.form;
         Ok(())
     }
 
@@ -193,41 +165,37 @@ impl OpenDump {
     /// The number of its first line, or of its wide row.
     fn number(&self) -> usize {
         if self.held.is_held() {
-            self.held.number()
+            self.held.number
         } else {
             self.first
         }
     }
 
-    /// Becomes the wide row of a line of this number and size, and why the line before refuses it.
+    /// Becomes the wide row of a line of this number, and why the line before refuses it.
     #[tactic(auto, unfolding(crate::specs::OpenDump::holding))]
     pub(crate) fn hold(
         &mut self,
         number: usize,
         line: &[u8],
-        size: Option<usize>,
         lack: Option<NoBytes>,
     ) -> Result<(), AllocError>
-        requires size { size ≡ line_size line.now }
         ensures { OnOk result (self.new ≡ holding self.old number line.now lack) }
     {
-        self.held.hold(number, line, size, lack)
+        self.held.hold(number, line, lack)
     }
 
-    /// Notes and gives why its wide row, if it is one, and the line behind it, of this size, are refused.
+    /// Notes and gives why its wide row, if it is one, and the line behind it are refused.
     #[tactic(auto, unfolding(crate::specs::OpenDump::judged))]
     pub(crate) fn judge(
         &mut self,
         alloc: Global,
         line: &[u8],
-        size: Option<usize>,
     ) -> Result<Option<NoBytes>, AllocError>
-        requires size { size ≡ line_size line.now }
         ensures lack { IfOk result (λ lack.
             lack ≡ lack_behind self.old.layout self.old.held line.now) }
         ensures judged { OnOk result (self.new ≡ judged_by self.old line.now) }
     {
-        let lack = self.held.lack_behind(alloc, self.layout, line, size)?;
+        let lack = self.held.lack_behind(alloc, self.layout, line)?;
         if self.held.is_held() {
             self.held.judge(lack);
         }
@@ -236,8 +204,11 @@ impl OpenDump {
 
     /// How its rows are read.
     pub(crate) fn reading(&self) -> Reading {
-        let is_turned = order_shown(self.end.order(), self.end.cells()) == Order::Turned;
-        rows_reading(self.form, self.has_wide_marks || is_turned)
+        let order = order_shown(self.end.order, self.end.cells.as_slice());
+        rows_reading(
+            self.form,
+            self.has_wide_marks || matches!(order, Order::Turned),
+        )
     }
 
     /// Notes how a line beside the dump was read, if it is an area.
@@ -334,7 +305,7 @@ fn form_repeated(form: Form) -> Form
 fn may_repeat(form: Form, end: &DumpEnd) -> bool
     ensures { result ≡ may_repeat form end.now }
 {
-    !end.is_unclear() && end.is_even() && has_addresses(form, end)
+    !end.unclear && end.is_even() && has_addresses(form, end)
 }
 
 /// Whether the addresses of rows of a form, and their base, are known: a dump without addresses has a
@@ -343,7 +314,7 @@ fn has_addresses(form: Form, end: &DumpEnd) -> bool
     ensures { result ≡ has_addresses form end.now }
 {
     match form {
-        Form::Plain => counts(end.column()) && is_hexadecimal_alone(end.column()),
+        Form::Plain => counts(end.column) && is_hexadecimal_alone(end.column),
         Form::Marked | Form::Offset | Form::Equals | Form::Value => end.is_base_sure(),
     }
 }
@@ -353,9 +324,9 @@ fn row_at(alloc: Global, row: &Row) -> Result<Option<Row>, AllocError>
     ensures { IfOk result (λ other.
         or_row other row.now ≡ row_at row.now row.now.column.hexadecimal) }
 {
-    match row.column().hexadecimal {
+    match row.column.hexadecimal {
         Some(address) => {
-            let row = Row::offset(alloc, address, row.group(), row_bare(row))?;
+            let row = Row::offset(alloc, address, row.group, row_bare(row))?;
             Ok(Some(row))
         }
         None => Ok(None),

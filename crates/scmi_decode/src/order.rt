@@ -1,7 +1,7 @@
 //! The orders in which the digits of a group may be.
 
 /// In which order the digits of a group are: a group of a dump is the digits between two gaps.
-#[derive(Clone, Copy, PartialEq, Eq)]
+#[derive(Clone, Copy)]
 pub(crate) enum Order {
     /// Those of the first byte come first: `xxd`.
     Straight,

@@ -97,8 +97,7 @@ fn write_place<W: Write>(
     match (line, start) {
         (Some(line), None) => write!(writer, "{line} "),
         (Some(line), Some(start)) => write!(writer, "{line}+0x{start:x} "),
-        (None, Some(start)) => write!(writer, "0x{start:x} "),
-        (None, None) => write!(writer, "0x0 "),
+        (None, start) => write!(writer, "0x{:x} ", start.unwrap_or(0)),
     }
 }
 

@@ -28,12 +28,12 @@ pub const ROW_LINE_BYTES: usize = 512;
 /// that is an address, and its bytes, at most `ROW_BYTES`.
 #[derive(Drop)]
 pub(crate) struct Row {
-    form: Form,
-    address: u64,
-    group: usize,
-    order: Order,
-    column: FirstColumn,
-    cells: Vec<Cell>,
+    pub(crate) form: Form,
+    pub(crate) address: u64,
+    pub(crate) group: usize,
+    pub(crate) order: Order,
+    pub(crate) column: FirstColumn,
+    pub(crate) cells: Vec<Cell>,
 }
 
 impl Model for Row {
@@ -52,42 +52,6 @@ impl Model for Row {
 }
 
 impl Row {
-    pub(crate) fn form(&self) -> Form
-        ensures { result ≡ self.now.form }
-    {
-        self.form
-    }
-
-    pub(crate) fn address(&self) -> u64
-        ensures { result ≡ self.now.address }
-    {
-        self.address
-    }
-
-    pub(crate) fn group(&self) -> usize
-        ensures { result ≡ self.now.group }
-    {
-        self.group
-    }
-
-    pub(crate) fn order(&self) -> Order
-        ensures { result ≡ self.now.order }
-    {
-        self.order
-    }
-
-    pub(crate) fn column(&self) -> FirstColumn
-        ensures { result ≡ self.now.column }
-    {
-        self.column
-    }
-
-    pub(crate) fn cells(&self) -> &[Cell]
-        ensures { result.now ≡ self.now.cells }
-    {
-        self.cells.as_slice()
-    }
-
     /// A row of numbers after an address alone, which have these bytes.
     pub(crate) fn offset(
         alloc: Global,
@@ -300,7 +264,7 @@ pub(crate) fn address_of(form: Form, digits: &[u8]) -> Option<u64>
 fn base_of(form: Form, digits: &[u8]) -> u64
     ensures { result ≡ base_of form digits.now }
 {
-    if form == Form::Offset && digits.len() == 7 {
+    if matches!(form, Form::Offset) && digits.len() == 7 {
         8
     } else {
         16

@@ -8,14 +8,14 @@ ghost use Rattle.scmi_decode.specs.Decoded.{dump_after, dump_after_end, dump_aft
 
 use crate::decode_error::DecodeError;
 use crate::findings::Findings;
-use crate::held_row::{line_size, size_and_width};
+use crate::held_row::is_wide_line;
 use crate::line::{report_line, report_open};
 use crate::open_dump::OpenDump;
 use crate::reading::has_wide_marks;
 use crate::readings::Readings;
 use crate::row::{Row, row_of};
 use crate::scan::begins_with;
-use std::alloc::{AllocError, Global};
+use std::alloc::Global;
 
 /// How the lines begin that are skipped: a comment, and what `devmem2` prints beside each number.
 pub(crate) const REMARK: &[u8] = b"#";
@@ -108,23 +108,10 @@ fn take_row<S: Findings>(
     match row_of(alloc, line)? {
         None => take_alone(alloc, sink, dump, number, line),
         Some(row) => {
-            judge_row(alloc, dump, line)?;
+            dump.judge(alloc, line)?;
             add_row(alloc, sink, dump, number, line, &row)
         }
     }
-}
-
-/// Notes why the wide row before a line is refused, if there is one.
-#[tactic(auto, unfolding(crate::specs::OpenDump::judged))]
-fn judge_row(alloc: Global, dump: &mut OpenDump, line: &[u8]) -> Result<(), AllocError>
-    ensures { OnOk result (dump.new ≡ judged_by dump.old line.now) }
-{
-    if !dump.held().is_held() {
-        return Ok(());
-    }
-    let size = line_size(alloc, line)?;
-    dump.judge(alloc, line, size)?;
-    Ok(())
 }
 
 /// Adds a row to the dump, or begins another with it.
@@ -172,11 +159,11 @@ fn take_alone<S: Findings>(
         (lack_behind dump.old.layout dump.old.held line.now) None) }
     ensures errors { IfErr result (λ e. (e ≡ DecodeError.Memory) ⊎ (e ≡ DecodeError.Write)) }
 {
-    let (size, is_wide) = size_and_width(alloc, line)?;
-    let lack = dump.judge(alloc, line, size)?;
+    let is_wide = is_wide_line(alloc, line)?;
+    let lack = dump.judge(alloc, line)?;
     if is_wide {
         close(alloc, sink, dump)?;
-        dump.hold(number, line, size, lack)?;
+        dump.hold(number, line, lack)?;
         return Ok(());
     }
     take_line_alone(alloc, sink, dump, number, line)
@@ -197,7 +184,7 @@ fn take_line_alone<S: Findings>(
         beside (closed dump.old) (line_is_area dump.old.layout number line.now)) }
     ensures errors { IfErr result (λ e. (e ≡ DecodeError.Memory) ⊎ (e ≡ DecodeError.Write)) }
 {
-    let layout = dump.layout();
+    let layout = dump.layout;
     close(alloc, sink, dump)?;
     let read = report_line(alloc, sink, layout, number, line)?;
     dump.note(number, read);

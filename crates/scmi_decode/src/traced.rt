@@ -17,7 +17,7 @@ use scmi_codec::{Message, Payload};
 use std::alloc::{AllocError, Global};
 
 /// What a line is, as one of Linux's ftrace.
-#[derive(PartialEq, Eq, Drop)]
+#[derive(Drop)]
 pub enum Traced {
     /// The message that an event `scmi_msg_dump` reports, and its instance of SCMI.
     Message {
