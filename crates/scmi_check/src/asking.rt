@@ -1,7 +1,7 @@
 //! The entries that lines show, and the commands among them that are answered later.
-ghost use Rattle.std.specs.Prelude.{◌≡◌, ◌<◌, OnOk, IfSome, Some, position};
+ghost use Rattle.std.specs.Prelude.{◌≡◌, ◌<◌, OnOk, IfSome, position};
 ghost use Rattle.scmi_judge.specs.declared.outstanding.TheConstants.{OUTSTANDING as PLACES};
-ghost use Rattle.scmi_check.specs.Asking.{asking_view, is_frame_judged, is_free, is_to_ask, nothing_asked, place_of_line, with_all_asked, with_all_given_up, with_asked, with_free, with_given_up, with_one, with_place};
+ghost use Rattle.scmi_check.specs.Asking.{asking_view, is_frame_judged, is_free, is_to_ask, nothing_asked, place_of_line, with_all_asked, with_all_given_up, with_asked, with_free, with_given_up, with_one};
 
 use crate::left_out::{frame_protocol, is_judged};
 use crate::record::Placed;
@@ -91,10 +91,17 @@ impl Asking {
         if !self.is_to_ask(judged, command) {
             return Ok(());
         }
-        match self.first_free() {
-            Some(place) => self.ask_at(place, command),
-            None => Ok(()),
-        }
+        let Some(place) = self.first_free() else {
+            return Ok(());
+        };
+        let entry = Entry::Asked {
+            place: place as u32,
+            agent: command.agent,
+            frame: command.frame.copy(),
+        };
+        self.push(command.line, entry)?;
+        self.asked[place] = Some(command.line);
+        Ok(())
     }
 
     /// Whether a command is judged, and has no place yet.
@@ -110,22 +117,6 @@ impl Asking {
         ensures few { IfSome result (λ place. place < PLACES) }
     {
         self.asked.iter().position(|asked| asked.is_none())
-    }
-
-    /// A command is answered later, at this place.
-    fn ask_at(&mut self, place: usize, command: &Waiting) -> Result<(), AllocError>
-        requires few { place < PLACES }
-        ensures { OnOk result (asking_view self.new
-            ≡ with_place (asking_view self.old) command.now (Some place)) }
-    {
-        let entry = Entry::Asked {
-            place: place as u32,
-            agent: command.agent,
-            frame: command.frame.copy(),
-        };
-        self.push(command.line, entry)?;
-        self.asked[place] = Some(command.line);
-        Ok(())
     }
 
     /// No answer comes to a command.

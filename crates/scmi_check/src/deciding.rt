@@ -1,8 +1,9 @@
 //! The check that decides a difference.
-use crate::check_row::{CHECKS, CheckRow, LENGTH, When};
+use crate::check_row::{CHECKS, LENGTH, When};
 use crate::judged::Judged;
 use crate::own_test::{begins_with, has_reserved_flags};
-use scmi_codec::{Answer, Command, Fault, Frame, Header, Message, is_listed, wanted_words};
+use crate::subject::answered;
+use scmi_codec::{Answer, Command, Fault, Header, Message, is_listed, wanted_words};
 use scmi_core::failed_response;
 use scmi_judge::{Entry, Refusals, Verdict};
 
@@ -16,17 +17,10 @@ pub(crate) fn deciding_word(one: &Judged, refusals: Refusals) -> Option<&'static
     match (&one.entry, &one.verdict) {
         (Entry::Delivered { message, .. }, _) => hardware_word(message, refusals),
         (_, Verdict::Answer(Answer::ChannelError)) => Some(LENGTH),
-        (
-            Entry::Answered {
-                frame: Frame::Good(command),
-                ..
-            }
-            | Entry::Replied {
-                frame: Frame::Good(command),
-                ..
-            },
-            Verdict::Answer(Answer::Reply(due)),
-        ) => check_word(command, due.payload.as_slice()),
+        (entry, Verdict::Answer(Answer::Reply(due))) => {
+            let (command, _) = answered(entry)?;
+            check_word(command, due.payload.as_slice())
+        }
         _ => None,
     }
 }
@@ -34,28 +28,21 @@ pub(crate) fn deciding_word(one: &Judged, refusals: Refusals) -> Option<&'static
 /// The word of a message that differs, if it says that the hardware refused a change.
 fn hardware_word(message: &Message, refusals: Refusals) -> Option<&'static str> {
     match refusals {
-        Refusals::None if is_refusal(message) => Some(HARDWARE),
+        Refusals::None if failed_response(message.header, Fault::HardwareError) == *message => Some(
+            HARDWARE,
+        ),
         _ => None,
     }
-}
-
-/// Whether a message is the delayed response to a change that the hardware refused.
-fn is_refusal(message: &Message) -> bool {
-    failed_response(message.header, Fault::HardwareError) == *message
 }
 
 /// The word of the first check of a command by which this payload is due.
 fn check_word(command: &Message, due: &[u32]) -> Option<&'static str> {
     'rows: for row in &CHECKS {
-        if decides(row, command, due) {
+        if begins_with(due, row.status) && is_when(row.when, command) {
             return Some(row.word);
         }
     }
     None
-}
-
-fn decides(row: &CheckRow, command: &Message, due: &[u32]) -> bool {
-    is_when(row.when, command) && begins_with(due, row.status)
 }
 
 /// Whether rows of this kind belong to a command.

@@ -1,5 +1,5 @@
 //! What the message of an entry is called.
-use scmi_codec::{DELAYED_RESPONSE, Frame, Header, NOTIFICATION, message_name};
+use scmi_codec::{DELAYED_RESPONSE, Frame, Header, Message, NOTIFICATION, message_name};
 use scmi_decode::notification_name;
 use scmi_judge::Entry;
 
@@ -20,16 +20,11 @@ pub(crate) fn entry_name(entry: &Entry) -> Option<&'static str> {
 
 fn frame_name(frame: &Frame) -> Option<&'static str> {
     match frame {
-        Frame::Good(command) => command_name(&command.header),
-        Frame::Malformed { .. } => None,
-    }
-}
-
-fn command_name(header: &Header) -> Option<&'static str> {
-    if header.kind() == 0 {
-        message_name(header.protocol(), header.id())
-    } else {
-        None
+        Frame::Good(Message { header, .. }) if header.kind() == 0 => message_name(
+            header.protocol(),
+            header.id(),
+        ),
+        _ => None,
     }
 }
 

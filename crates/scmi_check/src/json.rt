@@ -3,10 +3,10 @@ use crate::checked::Checked;
 use crate::counts::Counts;
 use crate::entry_name::entry_name;
 use crate::finding::Finding;
-use crate::help::Help;
 use crate::judged::Judged;
 use crate::note::{Lost, Note, NoteKind};
 use crate::reasons::{status_of_reply, wanted_of, write_report};
+use crate::report::Help;
 use crate::trace_time::TraceTime;
 use scmi_codec::{Answer, Message};
 use scmi_judge::{Entry, Verdict};
@@ -139,20 +139,15 @@ pub(crate) fn write_json_note<W: Write>(
     writeln!(writer, "}}")
 }
 
-/// Writes an object if the check ended before the record.
-pub(crate) fn write_json_unsure<W: Write>(writer: &mut W, checked: &Checked) -> io::Result<()> {
-    match checked.unsure {
-        Some(line) => writeln!(writer, "{{\"line\":{line},\"found\":\"unsure\"}}"),
-        None => Ok(()),
-    }
-}
-
-/// Writes the object that counts.
-pub(crate) fn write_json_counts<W: Write>(
+/// Writes an object if the check ended before the record, and the object that counts.
+pub(crate) fn write_json_end<W: Write>(
     writer: &mut W,
     counts: &Counts,
     checked: &Checked,
 ) -> io::Result<()> {
+    if let Some(line) = checked.unsure {
+        writeln!(writer, "{{\"line\":{line},\"found\":\"unsure\"}}")?;
+    }
     write!(
         writer,
         "{{\"same\":{},\"own\":{},\"differ\":{}",

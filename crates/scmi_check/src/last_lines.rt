@@ -24,28 +24,17 @@ impl LastLines {
     /// Notes the line of an entry, unless it differs. The line of the entry that explains it then,
     /// if it is so many back.
     pub fn note(&mut self, line: u32, differs: bool, back: Option<usize>) -> Option<u32> {
-        if !differs {
-            self.add(line);
-            return None;
+        if differs {
+            let ahead = LINES.checked_sub(back?)?;
+            return self
+                .lines
+                .get(self.next.wrapping_add(ahead) % LINES)
+                .copied();
         }
-        match back {
-            Some(back) => self.line_back(back),
-            None => None,
-        }
-    }
-
-    fn add(&mut self, line: u32) {
         if let Some(place) = self.lines.get_mut(self.next) {
             *place = line;
         }
         self.next = self.next.wrapping_add(1) % LINES;
-    }
-
-    /// The line that was noted so many before the next.
-    fn line_back(&self, back: usize) -> Option<u32> {
-        let ahead = LINES.checked_sub(back)?;
-        self.lines
-            .get(self.next.wrapping_add(ahead) % LINES)
-            .copied()
+        None
     }
 }

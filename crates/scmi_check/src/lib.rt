@@ -19,7 +19,6 @@ mod entry_name;
 mod event_shown;
 mod fields_text;
 mod finding;
-mod help;
 mod json;
 mod judged;
 mod keeper;

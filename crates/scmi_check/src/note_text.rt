@@ -20,7 +20,12 @@ pub(crate) fn write_note<W: Write>(
     time: Option<TraceTime>,
 ) -> io::Result<()> {
     write!(writer, "{}{} ", mark(style), note.line)?;
-    write_kind(writer, note.kind)?;
+    match note.kind {
+        NoteKind::Unanswered => write!(writer, "{UNANSWERED}")?,
+        NoteKind::Unmatched => write!(writer, "{UNMATCHED}")?,
+        NoteKind::Lost(Lost::Events(events)) => write!(writer, "lost {events} events")?,
+        NoteKind::Lost(Lost::Unknown) => write!(writer, "lost events")?,
+    }
     write_time(writer, time)?;
     writeln!(writer)
 }
@@ -49,16 +54,7 @@ fn mark(style: Style) -> &'static str {
     }
 }
 
-fn write_kind<W: Write>(writer: &mut W, kind: NoteKind) -> io::Result<()> {
-    match kind {
-        NoteKind::Unanswered => write!(writer, "{UNANSWERED}"),
-        NoteKind::Unmatched => write!(writer, "{UNMATCHED}"),
-        NoteKind::Lost(Lost::Events(events)) => write!(writer, "lost {events} events"),
-        NoteKind::Lost(Lost::Unknown) => write!(writer, "lost events"),
-    }
-}
-
-/// Writes how much is left out, each number only if it is not 0.
+/// Writes how much is left out, each number only if it is not 0, and of which protocols.
 pub(crate) fn write_left<W: Write>(
     writer: &mut W,
     counts: &Counts,
@@ -66,22 +62,11 @@ pub(crate) fn write_left<W: Write>(
 ) -> io::Result<()> {
     write_count(writer, counts.unanswered, UNANSWERED)?;
     write_count(writer, counts.unmatched, UNMATCHED)?;
-    write_skipped(writer, checked.skipped, &checked.protocols)
-}
-
-fn write_count<W: Write>(writer: &mut W, count: u64, word: &str) -> io::Result<()> {
-    if count == 0 {
-        return Ok(());
-    }
-    write!(writer, ", {count} {word}")
-}
-
-/// Writes how much is skipped, and of which protocols, if there is one.
-fn write_skipped<W: Write>(writer: &mut W, skipped: u32, protocols: &[u8]) -> io::Result<()> {
-    let [first, others @ ..] = protocols else {
+    let [first, others @ ..] = checked.protocols.as_slice() else {
         return Ok(());
     };
     let plural = if others.is_empty() { "" } else { "s" };
+    let skipped = checked.skipped;
     write!(
         writer,
         ", {skipped} skipped of protocol{plural} 0x{first:x}"
@@ -90,4 +75,11 @@ fn write_skipped<W: Write>(writer: &mut W, skipped: u32, protocols: &[u8]) -> io
         write!(writer, ", 0x{protocol:x}")?;
     }
     Ok(())
+}
+
+fn write_count<W: Write>(writer: &mut W, count: u64, word: &str) -> io::Result<()> {
+    if count == 0 {
+        return Ok(());
+    }
+    write!(writer, ", {count} {word}")
 }

@@ -4,11 +4,11 @@ ghost use Rattle.std.specs.Prelude.{◌≡◌};
 use crate::check_error::CheckError;
 use crate::checked::Checked;
 use crate::counts::Counts;
+use crate::deciding::deciding_word;
 use crate::entry_name::entry_name;
 use crate::fields_text::write_command_fields;
 use crate::finding::Finding;
-use crate::help::Help;
-use crate::json::{write_json_counts, write_json_entry, write_json_note, write_json_unsure};
+use crate::json::{write_json_end, write_json_entry, write_json_note};
 use crate::judged::Judged;
 use crate::last_sets::LastSets;
 use crate::listener::Listener;
@@ -29,6 +29,17 @@ pub enum Style {
     Tap,
     /// A JSON object a line.
     Json,
+}
+
+/// What is said of a difference beside what was due and what was seen.
+#[derive(Clone, Copy)]
+pub(crate) struct Help {
+    /// The word of the check that decides, if there is one.
+    pub by: Option<&'static str>,
+    /// The line that set what it is about, if there is one.
+    pub set: Option<u32>,
+    /// The line of the entry that would explain it, if it had been another.
+    pub unless: Option<u32>,
 }
 
 /// Writes what is found of a record as it comes: a line for each entry, and one for each note of
@@ -78,8 +89,7 @@ impl<'a, W: Write> Report<'a, W> {
             time: _,
         } = self;
         if style == Style::Json {
-            write_json_unsure(writer, checked)?;
-            return write_json_counts(writer, &counts, checked);
+            return write_json_end(writer, &counts, checked);
         }
         write_unsure(writer, style, checked)?;
         write_counts(writer, style, &counts)?;
@@ -94,7 +104,11 @@ impl<'a, W: Write> Report<'a, W> {
     /// Writes an entry, and notes it for those that come.
     fn write_entry(&mut self, one: &Judged, unless: Option<u32>) -> io::Result<()> {
         let finding = one.finding();
-        let help = Help::with(one, self.refusals, &self.sets, unless);
+        let help = Help {
+            by: deciding_word(one, self.refusals),
+            set: self.sets.line_of(one),
+            unless,
+        };
         self.sets.add(one);
         self.counts.add(finding);
         match self.style {

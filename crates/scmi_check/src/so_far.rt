@@ -4,7 +4,7 @@ ghost use Rattle.scmi_codec.specs.declared.header.TheConstants.{TOKENS};
 ghost use Rattle.scmi_board.specs.LineError.{Gives, GivesUnless};
 ghost use Rattle.scmi_board.specs.TextError.{IsOfScript};
 ghost use Rattle.scmi_text.specs.TextLines.{GivesScript};
-ghost use Rattle.scmi_check.specs.RecordText.{all_given_up, given_up, entry_protocol, finished, nothing_shown, record_view, ready, shows_of, told, token_free, token_taken, with_answer, with_answered, with_asking, with_called, with_entry, with_lost, with_posted, with_response, with_shown, with_trace, with_traced, with_unmatched, with_waiting};
+ghost use Rattle.scmi_check.specs.RecordText.{all_given_up, given_up, entry_protocol, finished, nothing_shown, record_view, ready, shows_of, told, token_free, token_taken, with_answer, with_answered, with_asking, with_called, with_entry, with_lost, with_posted, with_response, with_shown, with_traced, with_unmatched};
 
 use crate::asking::Asking;
 use crate::left_out::{LeftOut, frame_protocol, is_judged};
@@ -153,17 +153,7 @@ impl<'a> SoFar<'a> {
         if place_of(&self.waiting, agent).is_some() {
             return Err(LineError::Form);
         }
-        self.wait(line, agent, frame)
-    }
-
-    /// A command that waits for its answer.
-    fn wait(&mut self, line: u32, agent: u32, frame: Frame) -> Result<(), LineError>
-        ensures { GivesUnless (λ _. shows_of self.new) result
-            (Some (with_waiting (shows_of self.old) line agent frame)) }
-    {
-        let Ok(()) = self.waiting.push(Waiting { line, agent, frame }) else {
-            return Err(LineError::Memory);
-        };
+        self.waiting.push(Waiting { line, agent, frame })?;
         Ok(())
     }
 
@@ -179,7 +169,9 @@ impl<'a> SoFar<'a> {
         if is_early(early, agent, token) {
             return self.leave(line, message.header.protocol());
         }
-        self.trace(line, agent, Frame::Good(message))
+        let frame = Frame::Good(message);
+        self.traced.push(Waiting { line, agent, frame })?;
+        Ok(())
     }
 
     /// The command of an agent in a trace that waits with this token, if there is one, has no answer.
@@ -194,17 +186,6 @@ impl<'a> SoFar<'a> {
             }
             None => Ok(()),
         }
-    }
-
-    /// A command of a trace that waits for its response.
-    fn trace(&mut self, line: u32, agent: u32, frame: Frame) -> Result<(), LineError>
-        ensures { GivesUnless (λ _. shows_of self.new) result
-            (Some (with_trace (shows_of self.old) line agent frame)) }
-    {
-        let Ok(()) = self.traced.push(Waiting { line, agent, frame }) else {
-            return Err(LineError::Memory);
-        };
-        Ok(())
     }
 
     /// The answer to the command of its agent that waits. `Form` if none waits.

@@ -1,7 +1,8 @@
 //! The power domain or clock that an entry is about.
 use crate::judged::Judged;
 use scmi_codec::{
-    Command, DELAYED_RESPONSE, Frame, Message, NOTIFICATION, POWER_PROTOCOL, Part, listed_row,
+    Answer, Command, DELAYED_RESPONSE, Frame, Message, NOTIFICATION, POWER_PROTOCOL, Part,
+    listed_row,
 };
 use scmi_judge::{Entry, Verdict, has_succeeded, sets_value};
 use scmi_plan::{Effect, Report, Resource};
@@ -12,21 +13,32 @@ const POWER_STATE_CHANGED: u8 = 0x0;
 /// The subject of an entry: the power domain or clock that its command or its message names. `None`
 /// if it names none.
 pub(crate) fn subject_of(entry: &Entry) -> Option<Resource> {
+    if let Entry::Delivered { message, .. } = entry {
+        return message_subject(message);
+    }
+    let (command, _) = answered(entry)?;
+    if Command::read(command).is_err() {
+        return None;
+    }
+    let header = &command.header;
+    let row = listed_row(header.protocol(), u32::from(header.id()))?;
+    named_in(row.asks, command.payload.as_slice())
+}
+
+/// The command of an entry, if it is well formed, with its answer.
+pub(crate) fn answered(entry: &Entry) -> Option<(&Message, &Answer)> {
     match entry {
         Entry::Answered {
             frame: Frame::Good(command),
+            answer,
             ..
         }
         | Entry::Replied {
             frame: Frame::Good(command),
+            answer,
             ..
-        } => command_subject(command),
-        Entry::Answered { .. }
-        | Entry::Replied { .. }
-        | Entry::Asked { .. }
-        | Entry::GivenUp { .. }
-        | Entry::Told { .. } => None,
-        Entry::Delivered { message, .. } => message_subject(message),
+        } => Some((command, answer)),
+        _ => None,
     }
 }
 
@@ -42,18 +54,9 @@ pub(crate) fn changed_by(one: &Judged) -> Option<Resource> {
 
 /// Whether an entry is a set that was answered by SUCCESS.
 fn is_set(entry: &Entry) -> bool {
-    match entry {
-        Entry::Answered {
-            frame: Frame::Good(command),
-            answer,
-            ..
-        }
-        | Entry::Replied {
-            frame: Frame::Good(command),
-            answer,
-            ..
-        } => sets_value(&Command::read(command)) && has_succeeded(answer),
-        _ => false,
+    match answered(entry) {
+        Some((command, answer)) => sets_value(&Command::read(command)) && has_succeeded(answer),
+        None => false,
     }
 }
 
@@ -67,16 +70,6 @@ fn told_subject(report: Report) -> Option<Resource> {
         Report::Settled { clock, .. } => Some(Resource::Clock(clock)),
         Report::First(_) => None,
     }
-}
-
-/// What a command names, if it is one.
-fn command_subject(command: &Message) -> Option<Resource> {
-    if Command::read(command).is_err() {
-        return None;
-    }
-    let header = &command.header;
-    let row = listed_row(header.protocol(), u32::from(header.id()))?;
-    named_in(row.asks, command.payload.as_slice())
 }
 
 /// What a message of the platform names, in the words behind its first: in a delayed response that
