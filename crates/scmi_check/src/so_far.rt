@@ -153,7 +153,9 @@ impl<'a> SoFar<'a> {
         if place_of(&self.waiting, agent).is_some() {
             return Err(LineError::Form);
         }
-        self.waiting.push(Waiting { line, agent, frame })?;
+        let Ok(()) = self.waiting.push(Waiting { line, agent, frame }) else {
+            return Err(LineError::Memory);
+        };
         Ok(())
     }
 
@@ -170,7 +172,9 @@ impl<'a> SoFar<'a> {
             return self.leave(line, message.header.protocol());
         }
         let frame = Frame::Good(message);
-        self.traced.push(Waiting { line, agent, frame })?;
+        let Ok(()) = self.traced.push(Waiting { line, agent, frame }) else {
+            return Err(LineError::Memory);
+        };
         Ok(())
     }
 
