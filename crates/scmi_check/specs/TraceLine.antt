@@ -1,5 +1,6 @@
 -- Lines of Linux's ftrace that show no message.
-use Rattle.std.specs.Prelude.{ℕ, ◌==◌, ◌&&◌, ◌||◌, nat_eq, nat_le, Bool, false, if◌then◌else◌, List, [], ◌∷◌, length, Option, Some, None}
+use Rattle.std.specs.Prelude.{ℕ, ◌==◌, ◌&&◌, ◌||◌, nat_eq, Bool, false, if◌then◌else◌, List, [], ◌∷◌, length, Option, Some, None}
+use Rattle.std.specs.Char.{is_ascii_digit}
 use Rattle.std.specs.List.{starts_with}
 use Rattle.std.specs.Str.{bytes_eq}
 use Rattle.scmi_board.specs.Items.{◌>>=◌}
@@ -29,19 +30,15 @@ abbrev pub lost_in : List (List ℕ) → Option Lost
 lost_in [] = None
 lost_in (item ∷ items) = if bytes_eq item LOST.now then lost_behind items else lost_in items
 
--- a decimal digit
-abbrev pub is_digit : ℕ → Bool
-is_digit byte = nat_le 48 byte && nat_le byte 57
-
 -- what follows the digits that a text begins with
 abbrev pub behind_all_digits : List ℕ → List ℕ
 behind_all_digits [] = []
-behind_all_digits (byte ∷ rest) = if is_digit byte then behind_all_digits rest else byte ∷ rest
+behind_all_digits (byte ∷ rest) = if is_ascii_digit byte then behind_all_digits rest else byte ∷ rest
 
 -- the same, if there is one
 abbrev pub behind_digits : List ℕ → Option (List ℕ)
 behind_digits [] = None
-behind_digits (byte ∷ rest) = if is_digit byte then Some (behind_all_digits rest) else None
+behind_digits (byte ∷ rest) = if is_ascii_digit byte then Some (behind_all_digits rest) else None
 
 -- nothing follows
 abbrev pub is_all : Option (List ℕ) → Bool

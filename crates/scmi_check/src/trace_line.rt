@@ -4,7 +4,7 @@ ghost use Rattle.std.specs.List.{slice_split};
 ghost use Rattle.std.specs.Option.{option_copied};
 ghost use Rattle.scmi_decode.specs.Dump.{is_gap};
 ghost use Rattle.scmi_decode.specs.Event.{behind_name};
-ghost use Rattle.scmi_check.specs.TraceLine.{behind_all_digits, behind_digits, cpu_left, has_cpu, has_stamp, is_cpu, is_digit, is_heading, is_stamp, is_trace_line, lost_behind, lost_in, stamp_left};
+ghost use Rattle.scmi_check.specs.TraceLine.{behind_all_digits, behind_digits, cpu_left, has_cpu, has_stamp, is_cpu, is_heading, is_stamp, is_trace_line, lost_behind, lost_in, stamp_left};
 
 use crate::note::Lost;
 use scmi_board::number;
@@ -169,7 +169,7 @@ fn behind_digits(text: &[u8]) -> Option<&[u8]>
     ensures { option_copied result ≡ behind_digits text.now }
 {
     match text {
-        [first, rest @ ..] if is_digit(*first) => Some(behind_all_digits(rest)),
+        [first, rest @ ..] if first.is_ascii_digit() => Some(behind_all_digits(rest)),
         _ => None,
     }
 }
@@ -180,16 +180,10 @@ fn behind_all_digits(text: &[u8]) -> &[u8]
 {
     let mut rest = text;
     'digits: while let [first, behind @ ..] = rest {
-        if !is_digit(*first) {
+        if !first.is_ascii_digit() {
             return rest;
         }
         rest = behind;
     }
     rest
-}
-
-fn is_digit(byte: u8) -> bool
-    ensures { result ≡ is_digit byte }
-{
-    byte >= b'0' && byte <= b'9'
 }
