@@ -3,7 +3,7 @@
 use crate::group_order::are_bits;
 use crate::number::is_hexadecimal;
 use crate::parts::parts_of;
-use crate::scan::{after_gap, after_item, first_item};
+use crate::scan::{after_gap, after_item, bar_length, first_item, has_one_item};
 
 /// The most digits of a number of 64 bits.
 const NUMBER_DIGITS: usize = 16;
@@ -14,9 +14,9 @@ pub(crate) fn advice_for(text: &[u8]) -> &'static str {
     let line = after_gap(text);
     let first = first_item(line);
     let parts = parts_of(text);
-    if line.starts_with(b":") && line.iter().skip(1).all(|byte| is_digit_or_end(*byte)) {
+    if is_record(b":", line) {
         "Intel HEX; make bytes of it (objcopy -I ihex -O binary) and decode these with -b"
-    } else if is_s_record(line) {
+    } else if line.len() > 9 && is_record(b"S", line) {
         "Motorola S-records; make bytes of them (objcopy -I srec -O binary) and decode these with -b"
     } else if line.starts_with(b"b'\\x")
         || line.starts_with(b"b\"\\x")
@@ -35,7 +35,7 @@ pub(crate) fn advice_for(text: &[u8]) -> &'static str {
         "its first column may be addresses; print single bytes (od -t x1)"
     } else if first.len() == 8 && is_hexadecimal(first) && text_is_bare(line) {
         "PowerShell's Format-Hex; decode the file itself with -b"
-    } else if line.len() > 40 && after_gap(after_item(line)).is_empty() && is_base64(first) {
+    } else if line.len() > 40 && has_one_item(line) && is_base64(first) {
         "Base64; make bytes of it (base64 -d) and decode these with -b"
     } else if has_short_numbers(line) {
         "numbers without leading zeros do not show how wide they are; print 8 digits each (%08x)"
@@ -46,10 +46,7 @@ pub(crate) fn advice_for(text: &[u8]) -> &'static str {
 
 /// Whether all items are numbers, but for what comes before an `=`.
 fn has_short_numbers(line: &[u8]) -> bool {
-    let mut rest = match line.iter().position(|byte| *byte == b'=') {
-        Some(place) if place < line.len() => &line[place + 1..],
-        _ => line,
-    };
+    let mut rest = after_equals(line);
     let mut has_number = false;
     for _ in 0..line.len() {
         let item = first_item(rest);
@@ -79,29 +76,39 @@ fn is_word_beside_text(line: &[u8]) -> bool {
         && !text_is_bare(line)
 }
 
+/// What follows the first `=` of a line, or all of it.
+fn after_equals(line: &[u8]) -> &[u8] {
+    for place in 0..line.len() {
+        if line[place] == b'=' {
+            return &line[place + 1..];
+        }
+    }
+    line
+}
+
 /// Whether no bar is before a column of text.
 fn text_is_bare(line: &[u8]) -> bool {
-    line.iter().all(|byte| *byte != b'|' && *byte != b'>')
+    bar_length(line) == line.len()
 }
 
-/// Whether a line is `S`, its kind, and hexadecimal digits.
-fn is_s_record(line: &[u8]) -> bool {
-    match line {
-        [b'S', digits @ ..] => {
-            digits.len() > 8 && digits.iter().all(|byte| is_digit_or_end(*byte))
+/// Whether a line is a mark, and hexadecimal digits after it.
+fn is_record(mark: &[u8], line: &[u8]) -> bool {
+    let Some(digits) = line.strip_prefix(mark) else {
+        return false;
+    };
+    for byte in digits {
+        if !byte.is_ascii_hexdigit() && *byte != b'\r' {
+            return false;
         }
-        _ => false,
     }
-}
-
-fn is_digit_or_end(byte: u8) -> bool {
-    byte.is_ascii_hexdigit() || byte == b'\r'
+    true
 }
 
 fn is_base64(item: &[u8]) -> bool {
+    for byte in item {
+        if !byte.is_ascii_alphanumeric() && *byte != b'+' && *byte != b'/' && *byte != b'=' {
+            return false;
+        }
+    }
     !is_hexadecimal(item)
-        && item.iter().all(|byte| byte.is_ascii_alphanumeric()
-            || *byte == b'+'
-            || *byte == b'/'
-            || *byte == b'=')
 }

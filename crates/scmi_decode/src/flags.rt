@@ -59,8 +59,8 @@ pub(crate) struct Switch(
 impl fmt::Display for Switch {
     fn fmt<W: fmt::Write>(&self, f: &mut fmt::Formatter<W>) -> fmt::Result {
         let Switch(word, on, off) = *self;
-        f.write_str(if word & 1 == 1 { on } else { off })?;
-        write!(f, "{}", Reserved(word & !1))
+        let text = if word & 1 == 1 { on } else { off };
+        write!(f, "{text}{}", Reserved(word & !1))
     }
 }
 
