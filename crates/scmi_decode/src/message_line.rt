@@ -134,7 +134,7 @@ pub(crate) fn behind_got<'a, 'b>(items: &'b [&'a [u8]]) -> Option<&'b [&'a [u8]]
 fn is_agent(item: &[u8]) -> bool
     ensures { result ≡ is_agent item.now }
 {
-    digits_number(10, 1 << 32, item).is_some()
+    digits_number(10, 0x1_0000_0000, item).is_some()
 }
 
 /// Whether an item reports that an agent has got the message after it.

@@ -1,5 +1,5 @@
 //! Replies, delayed responses and notifications: their forms and their fields.
-ghost use Rattle.std.specs.Prelude.{◌≡◌};
+ghost use Rattle.std.specs.Prelude.{◌≡◌, ◌+◌, ◌/◌};
 ghost use Rattle.scmi_decode.specs.Replies.{response_status, has_reply_form, has_protocols, has_rates, reply_fields, delayed_fields, notification_fields};
 
 use crate::field::{Field, Fields, fields_of};
@@ -45,9 +45,16 @@ fn has_protocols(words: &[u32]) -> bool
     ensures { result ≡ has_protocols words.now }
 {
     match words {
-        [count, ids @ ..] => ids.len() == (*count as usize + 3) / 4,
+        [count, ids @ ..] => ids.len() == id_words(*count),
         [] => false,
     }
+}
+
+/// The words of so many ids.
+fn id_words(count: u32) -> usize
+    ensures { result ≡ (count + 3) / 4 }
+{
+    (count as usize + 3) / 4
 }
 
 /// Whether words are a flags word and as many rates as it encodes, one at least.

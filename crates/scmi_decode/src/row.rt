@@ -159,7 +159,7 @@ fn word_bytes_of(number: Option<u64>) -> Option<[u8; 4]>
     ensures { result ≡ word_bytes_of number }
 {
     match number {
-        Some(number) if number < 1 << 32 => Some((number as u32).to_le_bytes()),
+        Some(number) if number < 0x1_0000_0000 => Some((number as u32).to_le_bytes()),
         _ => None,
     }
 }

@@ -118,7 +118,7 @@ fn instance_of(value: Option<&[u8]>) -> Option<u32>
     ensures { result ≡ instance_of (option_copied value.entry) }
 {
     match value {
-        Some(digits) => match digits_number(10, 1 << 32, digits) {
+        Some(digits) => match digits_number(10, 0x1_0000_0000, digits) {
             Some(number) => Some(number as u32),
             None => None,
         },
