@@ -2,7 +2,7 @@
 ghost use Rattle.std.specs.Prelude.{◌≡◌, ◌<◌, IfOk, IfSome, map};
 ghost use Rattle.std.specs.Int.{to_le_bytes, w32};
 ghost use Rattle.std.specs.Option.{option_copied, option_map};
-ghost use Rattle.scmi_decode.specs.Event.{behind_name, channel_word, digits_number, event_area, event_area_of, event_header, event_payload, field_number, has_status, kind_of, message_type, payload_bytes, signed_word, status_bytes, status_word, value_of, begins_with_minus, negative_word};
+ghost use Rattle.scmi_decode.specs.Event.{behind_name, channel_word, digits_number, event_area, event_area_of, event_header, event_payload, has_status, kind_of, message_type, payload_bytes, signed_word, status_bytes, status_word, value_of, begins_with_minus, negative_word};
 
 use crate::dump::bytes_of;
 use crate::message_area::message_area;
@@ -61,9 +61,9 @@ fn event_area_of(
 pub(crate) fn event_header(kind: EventKind, items: &[&[u8]]) -> Option<Header>
     ensures { result ≡ event_header kind (map (λ item. item.now) items.now) }
 {
-    let protocol = field_number(256, value_of(PROTOCOL, items))?;
-    let id = field_number(256, value_of(MESSAGE_ID, items))?;
-    let token = field_number(1024, value_of(TOKEN, items))?;
+    let protocol = digits_number(16, 256, value_of(PROTOCOL, items)?)?;
+    let id = digits_number(16, 256, value_of(MESSAGE_ID, items)?)?;
+    let token = digits_number(16, 1024, value_of(TOKEN, items)?)?;
     Some(Header::new(message_type(kind), protocol as u8, token as u16, id as u8))
 }
 
@@ -173,17 +173,6 @@ pub(crate) fn digits_number(base: u64, limit: u64, digits: &[u8]) -> Option<u64>
     }
     let number = number_from(base, 0, digits)?;
     if number < limit { Some(number) } else { None }
-}
-
-/// The number below a limit of a field in hexadecimal digits.
-fn field_number(limit: u64, value: Option<&[u8]>) -> Option<u64>
-    ensures number { result ≡ field_number limit (option_copied value.entry) }
-    ensures below { IfSome result (λ number. number < limit) }
-{
-    match value {
-        Some(digits) => digits_number(16, limit, digits),
-        None => None,
-    }
 }
 
 /// The word of the field `s=`.
