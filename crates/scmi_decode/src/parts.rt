@@ -12,6 +12,7 @@ use crate::scan::{
     after_cursor, after_gap, bar_length, behind_colon, column_length, item_and_rest, item_length,
     pipe_length,
 };
+use std::marker::Model;
 
 /// What comes before the address of a number that `devmem2` prints.
 pub(crate) const VALUE_AT: &[u8] = b"Value at address ";
@@ -25,12 +26,22 @@ pub(crate) struct Parts<'a> {
     pub(crate) column: &'a [u8],
 }
 
+impl Model for Parts<'_> {
+    ghost use Rattle.scmi_decode.specs.Row.{RowParts};
+
+    ghost Value = { RowParts };
+
+    ghost view = { λ p. record {
+      form = p.form;
+      digits = p.digits.now;
+      bytes = p.bytes.now;
+      column = p.column.now;
+    } };
+}
+
 /// The parts of a line as a row, after what the kernel's log puts before its address.
 pub(crate) fn parts_of(line: &[u8]) -> Parts<'_>
-    ensures form { result.form ≡ (parts_of line.now).form }
-    ensures digits { result.digits.now ≡ (parts_of line.now).digits }
-    ensures bytes { result.bytes.now ≡ (parts_of line.now).bytes }
-    ensures column { result.column.now ≡ (parts_of line.now).column }
+    ensures { result ≡ parts_of line.now }
 {
     match behind_value(line) {
         Some(behind) => value_parts(behind),
@@ -47,10 +58,7 @@ fn behind_value(line: &[u8]) -> Option<&[u8]>
 
 /// A row of `devmem2`: an address, where that is mapped, and a number.
 fn value_parts(behind: &[u8]) -> Parts<'_>
-    ensures form { result.form ≡ (value_parts behind.now).form }
-    ensures digits { result.digits.now ≡ (value_parts behind.now).digits }
-    ensures bytes { result.bytes.now ≡ (value_parts behind.now).bytes }
-    ensures column { result.column.now ≡ (value_parts behind.now).column }
+    ensures { result ≡ value_parts behind.now }
 {
     let (digits, rest) = item_and_rest(behind);
     let (_mapped, bytes) = item_and_rest(rest);
@@ -65,10 +73,7 @@ fn value_parts(behind: &[u8]) -> Parts<'_>
 /// The parts of a line as a row; of a line that begins with no address all of it is data (own).
 #[tactic(auto, unfolding(crate::specs::Row::parts_at))]
 fn parts_at(line: &[u8]) -> Parts<'_>
-    ensures form { result.form ≡ (parts_at line.now).form }
-    ensures digits { result.digits.now ≡ (parts_at line.now).digits }
-    ensures bytes { result.bytes.now ≡ (parts_at line.now).bytes }
-    ensures column { result.column.now ≡ (parts_at line.now).column }
+    ensures { result ≡ parts_at line.now }
 {
     let (first, behind) = item_and_rest(line);
     if ends_in_colon(first) {
@@ -101,10 +106,7 @@ fn parts_at(line: &[u8]) -> Parts<'_>
 /// A row of a form, whose data are so long.
 fn cut_parts<'a>(form: Form, digits: &'a [u8], size: usize, groups: &'a [u8]) -> Parts<'a>
     requires fits { size ≤ length groups.now }
-    ensures form { result.form ≡ (cut_parts form digits.now size groups.now).form }
-    ensures digits { result.digits.now ≡ (cut_parts form digits.now size groups.now).digits }
-    ensures bytes { result.bytes.now ≡ (cut_parts form digits.now size groups.now).bytes }
-    ensures column { result.column.now ≡ (cut_parts form digits.now size groups.now).column }
+    ensures { result ≡ cut_parts form digits.now size groups.now }
 {
     let (bytes, column) = groups.split_at(size);
     Parts {
@@ -118,10 +120,7 @@ fn cut_parts<'a>(form: Form, digits: &'a [u8], size: usize, groups: &'a [u8]) ->
 /// A row of these digits, whose bytes follow them, before a column of text after two spaces.
 #[tactic(auto, unfolding(crate::specs::Row::marked_parts))]
 fn marked_parts<'a>(form: Form, digits: &'a [u8], behind: &'a [u8]) -> Parts<'a>
-    ensures form { result.form ≡ (marked_parts form digits.now behind.now).form }
-    ensures digits { result.digits.now ≡ (marked_parts form digits.now behind.now).digits }
-    ensures bytes { result.bytes.now ≡ (marked_parts form digits.now behind.now).bytes }
-    ensures column { result.column.now ≡ (marked_parts form digits.now behind.now).column }
+    ensures { result ≡ marked_parts form digits.now behind.now }
 {
     let groups = after_gap(behind);
     cut_parts(form, digits, column_length(groups), groups)
@@ -131,10 +130,7 @@ fn marked_parts<'a>(form: Form, digits: &'a [u8], behind: &'a [u8]) -> Parts<'a>
 /// and `<`.
 #[tactic(auto, unfolding(crate::specs::Row::offset_parts))]
 fn offset_parts<'a>(digits: &'a [u8], behind: &'a [u8]) -> Parts<'a>
-    ensures form { result.form ≡ (offset_parts digits.now behind.now).form }
-    ensures digits { result.digits.now ≡ (offset_parts digits.now behind.now).digits }
-    ensures bytes { result.bytes.now ≡ (offset_parts digits.now behind.now).bytes }
-    ensures column { result.column.now ≡ (offset_parts digits.now behind.now).column }
+    ensures { result ≡ offset_parts digits.now behind.now }
 {
     let (bytes, column) = behind.split_at(bar_length(behind));
     Parts {
@@ -148,10 +144,7 @@ fn offset_parts<'a>(digits: &'a [u8], behind: &'a [u8]) -> Parts<'a>
 /// A row of a debugger, `CLASS:ADDRESS|DATA`, whose data are sixteen bytes (own).
 #[tactic(auto, unfolding(crate::specs::Row::piped_parts))]
 fn piped_parts(line: &[u8]) -> Parts<'_>
-    ensures form { result.form ≡ (piped_parts line.now).form }
-    ensures digits { result.digits.now ≡ (piped_parts line.now).digits }
-    ensures bytes { result.bytes.now ≡ (piped_parts line.now).bytes }
-    ensures column { result.column.now ≡ (piped_parts line.now).column }
+    ensures { result ≡ piped_parts line.now }
 {
     let groups = piped_data(line);
     cut_parts(
