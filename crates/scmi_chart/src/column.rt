@@ -2,7 +2,7 @@
 
 use crate::chart::{Column, Dropped, Kind, Span, State};
 use crate::place::Place;
-use crate::shape::{Fit, NONE, NOTHING, Point, Shape, bar, fitted, words, write_shapes};
+use crate::shape::{NONE, NOTHING, Point, Shape, bar, drawn, fitted, words, write_shapes};
 use crate::value::Value;
 use std::io;
 use std::io::Write;
@@ -13,13 +13,14 @@ const NAME: u32 = 12;
 const QUEUE: &str = "<rect class=\"a% queue\" x=\"%\" y=\"%\" width=\"%\" height=\"%\"/>\n";
 
 const COUNT: &str = "<text class=\"a% count\" x=\"%\" y=\"%\" dx=\"%\" dy=\"12\">%</text>\n";
-/// Which notifications were dropped, with a cross.
+/// Which notifications were dropped, with a cross, and how many.
 const DROPPED: &str = "<g class=\"dropped\">\n<title>%</title>\n\
-<path class=\"lost\" d=\"M% %m57 -9l10 10m0 -10l-10 10\"/>\n";
-/// That one was dropped, and how many were.
-const ONE: &str = "<text x=\"%\" y=\"%\" dx=\"72\">dropped</text>\n</g>\n";
-
-const MANY: &str = "<text x=\"%\" y=\"%\" dx=\"72\">% dropped</text>\n</g>\n";
+<path class=\"lost\" d=\"M% %m57 -9l10 10m0 -10l-10 10\"/>\n\
+<text x=\"%\" y=\"%\" dx=\"72\">% dropped</text>\n</g>\n";
+/// The same of one.
+const ONE_DROPPED: &str = "<g class=\"dropped\">\n<title>%</title>\n\
+<path class=\"lost\" d=\"M% %m57 -9l10 10m0 -10l-10 10\"/>\n\
+<text x=\"%\" y=\"%\" dx=\"72\">dropped</text>\n</g>\n";
 
 pub(crate) fn write_columns<W: Write>(
     writer: &mut W,
@@ -38,7 +39,7 @@ fn write_column<W: Write>(writer: &mut W, place: Place<'_>, column: &Column) -> 
         write_shapes(writer, &span_of(place, column, span))?;
     }
     for dropped in &column.drops {
-        write_shapes(writer, &dropped_of(place, column, dropped))?;
+        write_shapes(writer, &[dropped_of(place, column, dropped)])?;
     }
     Ok(())
 }
@@ -51,14 +52,10 @@ fn head_of<'a>(place: Place<'_>, column: &'a Column) -> [Shape<'a>; 2] {
         Kind::Clock => "clock",
         Kind::Outbox(_) => "outbox",
     };
-    let fit = Fit {
-        room: place.name_room(column.kind),
-        size: NAME,
-    };
-    let kind = Value::Words(kind.as_bytes());
+    let room = place.name_room(column.kind);
     [
-        fitted("track", Point { x, y: 103 }, &column.name, fit),
-        words("kind", Point { x, y: 119 }, kind),
+        fitted("track", Point { x, y: 103 }, &column.name, room, NAME),
+        words("kind", Point { x, y: 119 }, Value::Words(kind.as_bytes())),
     ]
 }
 
@@ -100,41 +97,32 @@ fn waiting(corner: Point, height: u32, kind: Kind, count: u8) -> [Shape<'static>
         Kind::Outbox(agent) => Value::Number(u32::from(agent)),
         Kind::Domain | Kind::Clock => Value::Number(0),
     };
-    let (x, y) = (Value::Number(corner.x), Value::Number(corner.y));
     let width = 2 + 3 * u32::from(count);
-    let right = Value::Number(width + 7);
-    let (width, height) = (Value::Number(width), Value::Number(height));
+    let size = [Value::Number(width), Value::Number(height), NONE];
     let count = Value::Number(u32::from(count));
     [
-        Shape {
-            text: QUEUE,
-            values: [agent, x, y, width, height, NONE],
-        },
-        Shape {
-            text: COUNT,
-            values: [agent, x, y, right, count, NONE],
-        },
+        drawn(QUEUE, agent, corner, size),
+        drawn(
+            COUNT,
+            agent,
+            corner,
+            [Value::Number(width + 7), count, NONE],
+        ),
     ]
 }
 
 /// Notifications that were dropped at one time, beside the widest bar: a cross, how many they are,
 /// and for a reader who points at it which.
-fn dropped_of<'a>(place: Place<'_>, column: &Column, dropped: &'a Dropped) -> [Shape<'a>; 2] {
-    let x = Value::Number(place.column_x(column.place));
-    let y = Value::Number(place.state_y(dropped.time));
-    let (text, count) = if dropped.count == 1 {
-        (ONE, NONE)
-    } else {
-        (MANY, Value::Number(u32::from(dropped.count)))
+fn dropped_of<'a>(place: Place<'_>, column: &Column, dropped: &'a Dropped) -> Shape<'a> {
+    let at = Point {
+        x: place.column_x(column.place),
+        y: place.state_y(dropped.time),
     };
-    [
-        Shape {
-            text: DROPPED,
-            values: [Value::Outside(&dropped.detail), x, y, NONE, NONE, NONE],
-        },
-        Shape {
-            text,
-            values: [x, y, count, NONE, NONE, NONE],
-        },
-    ]
+    let (text, count) = if dropped.count == 1 {
+        (ONE_DROPPED, NONE)
+    } else {
+        (DROPPED, Value::Number(u32::from(dropped.count)))
+    };
+    let again = [Value::Number(at.x), Value::Number(at.y), count];
+    drawn(text, Value::Outside(&dropped.detail), at, again)
 }

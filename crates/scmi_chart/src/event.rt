@@ -4,11 +4,11 @@
 use crate::mark::Side;
 use crate::measure::width_in;
 use crate::place::Place;
-use crate::shape::{Fit, NONE, NOTHING, Point, Shape, bar, cross, fitted, line, ring};
+use crate::shape::{NONE, NOTHING, Point, Shape, bar, cross, drawn, fitted, line};
 use crate::value::Value;
 
 /// A word on the platform's lifeline, and what it is about.
-const PILL: &str = "<text class=\"sign\" x=\"%\" y=\"%\"><tspan class=\"name\">%</tspan>\
+const PILL: &str = "<text class=\"%\" x=\"%\" y=\"%\"><tspan class=\"name\">%</tspan>\
 <tspan class=\"object\" dx=\"6\">%</tspan></text>\n";
 
 /// How long the platform executes.
@@ -16,11 +16,6 @@ pub(crate) fn execution(place: Place<'_>, slot: u16, until: u16) -> Shape<'stati
     let corner = place.at_platform(slot).before(4, 4);
     let height = place.line_y(until).saturating_sub(place.line_y(slot));
     bar("run", corner, 8, height.saturating_add(8))
-}
-
-/// A ring where the platform posts a message.
-pub(crate) fn post(place: Place<'_>, slot: u16) -> Shape<'static> {
-    ring("post", place.at_platform(slot), 4)
 }
 
 /// The restart of an agent: a bar across its lifeline, and a pill on the platform's.
@@ -31,7 +26,7 @@ pub(crate) fn restart<'a>(
     text: &'a [u8],
 ) -> [Shape<'a>; 3] {
     let corner = place.at_agent(agent, slot).before(9, 6);
-    let [pill, words] = pill(place, slot, "restart", text);
+    let [pill, words, _] = pill(place, slot, "restart", text);
     [bar("again", corner, 18, 5), pill, words]
 }
 
@@ -41,26 +36,15 @@ pub(crate) fn pill<'a>(
     slot: u16,
     word: &'static str,
     text: &'a [u8],
-) -> [Shape<'a>; 2] {
+) -> [Shape<'a>; 3] {
     let width = width_in(text, 11).saturating_add(76);
     let at = place.at_platform(slot);
-    let (x, y) = (Value::Number(at.x), Value::Number(at.y));
-    let word = Value::Words(word.as_bytes());
-    let words = Shape {
-        text: PILL,
-        values: [x, y, word, Value::Outside(text), NONE, NONE],
-    };
-    [bar("pill", at.before(width / 2, 16), width, 23), words]
-}
-
-/// Words beside a lifeline, and the greatest size of their font.
-#[derive(Clone, Copy)]
-struct Note<'a> {
-    agent: u8,
-    slot: u16,
-    beside: Side,
-    text: &'a [u8],
-    size: u32,
+    let words = [Value::Words(word.as_bytes()), Value::Outside(text), NONE];
+    [
+        bar("pill", at.before(width / 2, 16), width, 23),
+        drawn(PILL, Value::Words(b"sign"), at, words),
+        NOTHING,
+    ]
 }
 
 /// A close, on the lifeline of the endpoint that closes.
@@ -75,39 +59,21 @@ pub(crate) fn close<'a>(
         Side::Agent => place.at_agent(agent, slot),
         Side::Platform => place.at_platform(slot),
     };
-    let note = Note {
-        agent,
-        slot,
-        beside: by,
-        text,
-        size: 11,
-    };
-    let [lead, words] = shapes_of(place, note);
+    let [lead, words, _] = note(place, agent, slot, by, text, 11);
     [cross("shut", at.before(0, 4)), lead, words]
 }
 
-/// Words beside a lifeline.
-pub(crate) fn remark<'a>(
+/// Words beside a lifeline, at most in this size, towards the other one. Those of an agent that is
+/// not beside the platform have a line to it, since they are where all words of its side are.
+pub(crate) fn note<'a>(
     place: Place<'_>,
     agent: u8,
     slot: u16,
     beside: Side,
     text: &'a [u8],
-) -> [Shape<'a>; 2] {
-    let note = Note {
-        agent,
-        slot,
-        beside,
-        text,
-        size: 10,
-    };
-    shapes_of(place, note)
-}
-
-/// Words beside a lifeline, towards the other one. Those of an agent that is not beside the
-/// platform have a line to it, since they are where all words of its side are.
-fn shapes_of<'a>(place: Place<'_>, note: Note<'a>) -> [Shape<'a>; 2] {
-    let (agent, y) = (note.agent, place.line_y(note.slot));
+    size: u32,
+) -> [Shape<'a>; 3] {
+    let y = place.line_y(slot);
     let is_left = place.is_left(agent);
     let up = y.saturating_sub(4);
     let from = Point {
@@ -118,16 +84,18 @@ fn shapes_of<'a>(place: Place<'_>, note: Note<'a>) -> [Shape<'a>; 2] {
         x: place.inner_x(agent, 24),
         y: up,
     };
-    let (lead, x, is_from_left) = match note.beside {
+    let (lead, x, is_from_left) = match beside {
         Side::Agent => (line("lead", from, to), place.inner_x(agent, 30), is_left),
         Side::Platform => (NOTHING, place.beside_platform(agent, 52), !is_left),
     };
-    let fit = Fit {
-        room: place.room(),
-        size: note.size,
-    };
-    let class = class_from(is_from_left);
-    [lead, fitted(class, Point { x, y }, note.text, fit)]
+    let words = fitted(
+        class_from(is_from_left),
+        Point { x, y },
+        text,
+        place.room(),
+        size,
+    );
+    [lead, words, NOTHING]
 }
 
 /// The class of words that begin at their place, or end there.
@@ -137,7 +105,7 @@ fn class_from(is_from_left: bool) -> &'static str {
 
 /// That the hardware refused what an agent's command was to change, beside the platform's lifeline
 /// and away from the agent's, where the command has no arrow.
-pub(crate) fn fault<'a>(place: Place<'_>, agent: u8, slot: u16, text: &'a [u8]) -> [Shape<'a>; 2] {
+pub(crate) fn fault<'a>(place: Place<'_>, agent: u8, slot: u16, text: &'a [u8]) -> [Shape<'a>; 3] {
     let at = place.at_platform(slot);
     let is_left = place.is_left(agent);
     let (sign, words) = if is_left {
@@ -145,10 +113,7 @@ pub(crate) fn fault<'a>(place: Place<'_>, agent: u8, slot: u16, text: &'a [u8]) 
     } else {
         (at.before(52, 0), at.before(66, 0))
     };
-    let fit = Fit {
-        room: place.room().saturating_sub(14),
-        size: 10,
-    };
-    let words = fitted(class_from(is_left), words, text, fit);
-    [cross("lost", sign.before(0, 4)), words]
+    let room = place.room().saturating_sub(14);
+    let words = fitted(class_from(is_left), words, text, room, 10);
+    [cross("lost", sign.before(0, 4)), words, NOTHING]
 }

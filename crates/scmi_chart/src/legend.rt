@@ -3,7 +3,7 @@
 use crate::chart::{Chart, Column, Span, State};
 use crate::drawn_marks::class_of;
 use crate::mark::Mark;
-use crate::shape::{Shape, write_shapes};
+use crate::shape::{NOTHING, Point, Shape, drawn, write_shapes};
 use crate::value::Value;
 use scmi_io::write_filled;
 use std::io;
@@ -68,8 +68,10 @@ macro_rules! entries {
     };
 }
 
+/// How many entries there are.
+const COUNT: usize = 14;
 /// All lines and signs, in order.
-const ENTRIES: [Entry; 14] = entries![
+const ENTRIES: [Entry; COUNT] = entries![
     Where::Mark("command"), 103 "command" ARROW 34 "command";
     Where::Lost, 108 "sign" CROSS 22 "not executed";
     Where::Mark("reply"), 91 "reply" ARROW 34 "reply";
@@ -86,79 +88,44 @@ const ENTRIES: [Entry; 14] = entries![
     Where::Dropped, 150 "sign" CROSS 22 "notification dropped";
 ];
 
-/// A place in the legend: how far to the right, and in which row.
+/// The explanations of what a chart has, and the height of their rows.
 #[derive(Clone, Copy)]
-struct Spot {
-    x: u32,
-    row: u32,
+pub(crate) struct Legend {
+    entries: [Shape<'static>; COUNT],
+    pub height: u32,
 }
 
-impl Spot {
-    /// The place of an entry that is to follow: in the next row if this one has no room for it.
-    fn for_entry(self, entry: &Entry, width: u32) -> Spot {
-        if self.x == 0 || self.x.saturating_add(entry.width) <= width {
-            self
-        } else {
-            Spot {
-                x: 0,
-                row: self.row.saturating_add(1),
+/// The legend of a chart in rows of this width: an entry is in the next row if there is no room for
+/// it in this one.
+pub(crate) fn legend_of(chart: &Chart, width: u32) -> Legend {
+    let mut entries = [NOTHING; COUNT];
+    let mut at = Point { x: 0, y: 0 };
+    for i in 0..COUNT {
+        let entry = &ENTRIES[i];
+        if is_used(chart, entry.place) {
+            if at.x > 0 && at.x.saturating_add(entry.width) > width {
+                at = Point { x: 0, y: at.y }.behind(0, ROW);
             }
+            entries[i] = shape_of(entry, at);
+            at = at.behind(entry.width, 0);
         }
     }
-
-    /// The place behind an entry.
-    fn behind(self, entry: &Entry) -> Spot {
-        Spot {
-            x: self.x.saturating_add(entry.width),
-            row: self.row,
-        }
-    }
+    let height = at.y.saturating_add(ROW);
+    Legend { entries, height }
 }
 
-/// Writes the explanations of what the chart has, in rows of this width.
-pub(crate) fn write_legend<W: Write>(
-    writer: &mut W,
-    chart: &Chart,
-    y: u32,
-    width: u32,
-) -> io::Result<()> {
+fn shape_of(entry: &Entry, at: Point) -> Shape<'static> {
+    let class = Value::Words(entry.class.as_bytes());
+    let sign = Value::Words(entry.sign.as_bytes());
+    let words = Value::Words(entry.words.as_bytes());
+    drawn(ENTRY, class, at, [sign, Value::Number(entry.x), words])
+}
+
+/// Writes a legend at this height.
+pub(crate) fn write_legend<W: Write>(writer: &mut W, legend: &Legend, y: u32) -> io::Result<()> {
     write_filled(writer, BEGIN, &[Value::Number(y)])?;
-    let mut spot = Spot { x: 0, row: 0 };
-    for entry in &ENTRIES {
-        if is_used(chart, entry.place) {
-            spot = spot.for_entry(entry, width);
-            write_shapes(writer, &[shape_of(spot, entry)])?;
-            spot = spot.behind(entry);
-        }
-    }
+    write_shapes(writer, &legend.entries)?;
     writer.write_all(b"</svg>\n")
-}
-
-fn shape_of(spot: Spot, entry: &Entry) -> Shape<'static> {
-    let (class, sign) = (
-        Value::Words(entry.class.as_bytes()),
-        Value::Words(entry.sign.as_bytes()),
-    );
-    let (x, y) = (
-        Value::Number(spot.x),
-        Value::Number(spot.row.saturating_mul(ROW)),
-    );
-    let (words_x, words) = (Value::Number(entry.x), Value::Words(entry.words.as_bytes()));
-    Shape {
-        text: ENTRY,
-        values: [class, x, y, sign, words_x, words],
-    }
-}
-
-/// The height of a chart's legend in rows of this width.
-pub(crate) fn legend_height(chart: &Chart, width: u32) -> u32 {
-    let mut spot = Spot { x: 0, row: 0 };
-    for entry in &ENTRIES {
-        if is_used(chart, entry.place) {
-            spot = spot.for_entry(entry, width).behind(entry);
-        }
-    }
-    (1 + spot.row.min(99)) * ROW
 }
 
 fn is_used(chart: &Chart, place: Where) -> bool {

@@ -2,7 +2,7 @@
 
 use crate::mark::{Mark, Message};
 use crate::place::Place;
-use crate::shape::{NONE, NOTHING, Point, Shape, cross, line};
+use crate::shape::{NONE, NOTHING, Point, Shape, cross, drawn, line};
 use crate::value::Value;
 
 /// A token in a ring on the lifeline of an agent.
@@ -10,33 +10,27 @@ const RING: &str = "<circle class=\"a% token\" cx=\"%\" cy=\"%\" r=\"%\"/>\n";
 
 const TOKEN: &str = "<text class=\"a% in\" x=\"%\" y=\"%\" dy=\"3\">%</text>\n";
 
-/// The way of the message that a mark shows, if it does.
+/// The way of the message that a mark shows, if it does. What waited did so beside the platform if
+/// it is a command, and else beside the agent. One that never was executed ends in a cross where
+/// commands wait, and one that could not be posted in a cross beside its agent.
 pub(crate) fn way_of(place: Place<'_>, mark: &Mark) -> [Shape<'static>; 3] {
+    let Some(message) = mark.message() else {
+        return [NOTHING, NOTHING, NOTHING];
+    };
+    let agent = message.agent;
+    let (lifeline, platform) = (place.agent_x(agent), place.beside_platform(agent, 5));
     match mark {
-        Mark::Command { message, .. } => command_way(place, message),
-        Mark::Withdrawn { message, .. } => withdrawn_way(place, message),
-        Mark::Refused { message } => refused_way(place, message),
-        Mark::Reply { message, .. }
-        | Mark::Notification { message }
-        | Mark::Delayed { message, .. } => answer_way(place, message),
-        _ => [NOTHING, NOTHING, NOTHING],
+        Mark::Command { .. } => way(place, message, lifeline, place.waiting_x(agent), platform),
+        Mark::Withdrawn { .. } => cut(place, message, place.waiting_x(agent)),
+        Mark::Refused { .. } => cut(place, message, place.beside_agent(agent, 24)),
+        _ => way(
+            place,
+            message,
+            platform,
+            place.beside_agent(agent, 22),
+            lifeline,
+        ),
     }
-}
-
-/// The way of a command: if it waited, it does so beside the platform.
-fn command_way(place: Place<'_>, message: &Message) -> [Shape<'static>; 3] {
-    let agent = message.agent;
-    let from = place.agent_x(agent);
-    let to = place.beside_platform(agent, 5);
-    way(place, message, from, place.waiting_x(agent), to)
-}
-
-/// The way of a message from the platform: if it waited, it does so beside the agent.
-fn answer_way(place: Place<'_>, message: &Message) -> [Shape<'static>; 3] {
-    let agent = message.agent;
-    let from = place.beside_platform(agent, 5);
-    let wait = place.beside_agent(agent, 22);
-    way(place, message, from, wait, place.agent_x(agent))
 }
 
 /// The way of a message: straight if it is taken in its slot, else to the place where it waits,
@@ -58,16 +52,6 @@ fn way(place: Place<'_>, message: &Message, from: u32, wait: u32, to: u32) -> [S
         line("wait", corner, end),
         line("head", end, Point { x: to, y: taken }),
     ]
-}
-
-/// The way of a command that never was executed, which ends in a cross where commands wait.
-fn withdrawn_way(place: Place<'_>, message: &Message) -> [Shape<'static>; 3] {
-    cut(place, message, place.waiting_x(message.agent))
-}
-
-/// The way of a command that could not be posted, which ends in a cross beside its agent.
-fn refused_way(place: Place<'_>, message: &Message) -> [Shape<'static>; 3] {
-    cut(place, message, place.beside_agent(message.agent, 24))
 }
 
 /// A way from an agent that ends in a cross.
@@ -100,16 +84,9 @@ fn token_at(place: Place<'_>, agent: u8, slot: u16, token: u16) -> [Shape<'stati
     let at = place.at_agent(agent, slot);
     let radius = Value::Number(if token < 100 { 9 } else { 13 });
     let agent = Value::Number(u32::from(agent));
-    let (x, y) = (Value::Number(at.x), Value::Number(at.y));
     let token = Value::Number(u32::from(token));
     [
-        Shape {
-            text: RING,
-            values: [agent, x, y, radius, NONE, NONE],
-        },
-        Shape {
-            text: TOKEN,
-            values: [agent, x, y, token, NONE, NONE],
-        },
+        drawn(RING, agent, at, [radius, NONE, NONE]),
+        drawn(TOKEN, agent, at, [token, NONE, NONE]),
     ]
 }

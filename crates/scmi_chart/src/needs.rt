@@ -175,15 +175,8 @@ pub(crate) struct Group {
     pub width: u32,
 }
 
-impl Group {
-    /// The width of this many of these columns.
-    pub fn width_of(self, count: u8) -> u32 {
-        self.width.saturating_mul(u32::from(count))
-    }
-}
-
 /// The place of a kind in the order of columns.
-fn order_of(kind: Kind) -> u8 {
+pub(crate) fn order_of(kind: Kind) -> usize {
     match kind {
         Kind::Domain => 0,
         Kind::Clock => 1,
@@ -192,7 +185,7 @@ fn order_of(kind: Kind) -> u8 {
 }
 
 /// The columns of the kind that has this place in the order of columns.
-pub(crate) fn group_of(columns: &[Column], order: u8, bounds: Bounds) -> Group {
+pub(crate) fn group_of(columns: &[Column], order: usize, bounds: Bounds) -> Group {
     let mut count = 0u8;
     let mut width = COLUMN;
     for column in columns {

@@ -3,13 +3,13 @@
 use crate::chart::Chart;
 use crate::column::write_columns;
 use crate::drawn_marks::write_mark;
-use crate::legend::{legend_height, write_legend};
+use crate::legend::{legend_of, write_legend};
 use crate::lifeline::{write_lifelines, write_rows};
 use crate::measure::width_in;
 use crate::place::Place;
 use crate::script::write_steps;
 use crate::shape::{Point, Shape, line, words, write_shapes};
-use crate::style::STYLE;
+use crate::style::write_style;
 use crate::value::Value;
 use std::io;
 use std::io::Write;
@@ -23,53 +23,28 @@ const SCREEN: u32 = 1_800;
 /// Writes the chart as an SVG. The error is the writer's; some parts may then be written.
 pub fn write_chart<W: Write>(writer: &mut W, chart: &Chart) -> io::Result<()> {
     let place = Place::of(chart);
-    write_shapes(writer, &[head_of(place, chart)])?;
-    writer.write_all(STYLE.as_bytes())?;
+    let width = width_of(place, chart);
+    let legend = legend_of(chart, width.saturating_sub(48));
+    let bottom = place.bottom();
+    let height = bottom.saturating_add(36).saturating_add(legend.height);
+    write_shapes(writer, &[head_of(chart, width, height)])?;
+    write_style(writer)?;
     write_shapes(writer, &titles_of(chart))?;
+    write_places(writer, place, chart)?;
+    for mark in &chart.marks {
+        write_mark(writer, place, mark)?;
+    }
+    write_legend(writer, &legend, bottom.saturating_add(26))?;
+    writer.write_all(b"</svg>\n")
+}
+
+/// Writes what is behind the marks, and the states beside them.
+fn write_places<W: Write>(writer: &mut W, place: Place<'_>, chart: &Chart) -> io::Result<()> {
     write_steps(writer, place, &chart.steps)?;
     write_lifelines(writer, place, &chart.lifelines)?;
     write_shapes(writer, &[border_of(place)])?;
     write_columns(writer, place, &chart.columns)?;
-    write_rows(writer, place, chart)?;
-    for mark in &chart.marks {
-        write_mark(writer, place, mark)?;
-    }
-    write_legend(
-        writer,
-        chart,
-        place.bottom().saturating_add(26),
-        legend_width(place, chart),
-    )?;
-    writer.write_all(b"</svg>\n")
-}
-
-/// The width of a picture, and its height.
-#[derive(Clone, Copy)]
-struct Size {
-    width: u32,
-    height: u32,
-}
-
-impl Size {
-    /// The size of a chart's picture.
-    fn of(place: Place<'_>, chart: &Chart) -> Size {
-        let legend = legend_height(chart, legend_width(place, chart));
-        Size {
-            width: width_of(place, chart),
-            height: place.bottom().saturating_add(36).saturating_add(legend),
-        }
-    }
-
-    /// The size in which the picture is shown: a wide one is smaller, so that it fits a screen, but
-    /// not below seven tenths.
-    fn shown(self) -> Size {
-        let width = self.width.min(SCREEN).max(self.width / 10 * 7);
-        let height = u64::from(self.height) * u64::from(width) / u64::from(self.width.max(1));
-        Size {
-            width,
-            height: height.min(u64::from(self.height)) as u32,
-        }
-    }
+    write_rows(writer, place, chart)
 }
 
 /// The width of a picture: that of its parts, and of its title.
@@ -78,23 +53,21 @@ fn width_of(place: Place<'_>, chart: &Chart) -> u32 {
     place.width().max(title.saturating_add(48))
 }
 
-fn legend_width(place: Place<'_>, chart: &Chart) -> u32 {
-    width_of(place, chart).saturating_sub(48)
-}
-
-/// The head of the file.
-fn head_of<'a>(place: Place<'_>, chart: &'a Chart) -> Shape<'a> {
-    let size = Size::of(place, chart);
-    let shown = size.shown();
-    let (shown_width, shown_height) = (Value::Number(shown.width), Value::Number(shown.height));
-    let (width, height) = (Value::Number(size.width), Value::Number(size.height));
+/// The head of the file. A wide picture is shown in a smaller size, so that it fits a screen, but
+/// not below seven tenths.
+fn head_of(chart: &Chart, width: u32, height: u32) -> Shape<'_> {
+    let shown = width.min(SCREEN).max(width / 10 * 7);
+    let lower = u64::from(height) * u64::from(shown) / u64::from(width.max(1));
+    let lower = lower.min(u64::from(height)) as u32;
+    let (shown, lower) = (Value::Number(shown), Value::Number(lower));
+    let (width, height) = (Value::Number(width), Value::Number(height));
     let (title, below) = (
         Value::Outside(&chart.title),
         Value::Outside(&chart.subtitle),
     );
     Shape {
         text: HEAD,
-        values: [shown_width, shown_height, width, height, title, below],
+        values: [shown, lower, width, height, title, below],
     }
 }
 

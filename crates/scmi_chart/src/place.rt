@@ -6,7 +6,9 @@
 //! screen. Sums that would wrap end at the largest number.
 
 use crate::chart::{Chart, Kind, Step};
-use crate::needs::{Bounds, Group, beyond_of, bounds_of, gap_of, group_of, script_of, side_of};
+use crate::needs::{
+    Bounds, Group, beyond_of, bounds_of, gap_of, group_of, order_of, script_of, side_of,
+};
 use crate::shape::Point;
 
 /// The most agents of a chart.
@@ -36,59 +38,55 @@ pub(crate) struct Place<'a> {
     slots: u16,
     agents: u8,
     bounds: Bounds,
-    /// The first lifeline.
-    left: u32,
+    /// How many agents are to the left of the platform.
+    left_agents: u32,
+    /// The platform's lifeline.
+    pub platform_x: u32,
     /// The distance between two agents on one side of the platform.
     side: u32,
     /// The distance between the platform and the nearest agent.
     gap: u32,
     /// The room beside the platform where no agent is.
     beyond: u32,
-    /// The columns, in their order.
-    domains: Group,
-    clocks: Group,
-    outboxes: Group,
+    /// The columns, in the order of their kinds.
+    groups: [Group; 3],
 }
 
 impl<'a> Place<'a> {
     pub fn of(chart: &'a Chart) -> Place<'a> {
         let bounds = bounds_of(chart.lifelines.len());
         let side = side_of(&chart.lifelines, bounds);
+        let gap = gap_of(&chart.marks, bounds);
+        let agents = chart.lifelines.len().min(AGENTS) as u8;
+        let left_agents = (u32::from(agents) + 1) / 2;
+        let between = side.saturating_mul(left_agents.saturating_sub(1));
+        let left = script_of(&chart.steps, bounds).saturating_add(side / 2);
         Place {
             steps: &chart.steps,
             slots: chart.slots,
-            agents: chart.lifelines.len().min(AGENTS) as u8,
+            agents,
             bounds,
-            left: script_of(&chart.steps, bounds).saturating_add(side / 2),
+            left_agents,
+            platform_x: left.saturating_add(between).saturating_add(gap),
             side,
-            gap: gap_of(&chart.marks, bounds),
+            gap,
             beyond: beyond_of(&chart.marks),
-            domains: group_of(&chart.columns, 0, bounds),
-            clocks: group_of(&chart.columns, 1, bounds),
-            outboxes: group_of(&chart.columns, 2, bounds),
+            groups: [
+                group_of(&chart.columns, 0, bounds),
+                group_of(&chart.columns, 1, bounds),
+                group_of(&chart.columns, 2, bounds),
+            ],
         }
-    }
-
-    /// How many agents are to the left of the platform.
-    fn left_agents(self) -> u32 {
-        (u32::from(self.agents) + 1) / 2
     }
 
     /// Whether an agent is to the left of the platform.
     pub fn is_left(self, agent: u8) -> bool {
-        u32::from(agent) <= self.left_agents()
-    }
-
-    pub fn platform_x(self) -> u32 {
-        let before = self.left_agents().saturating_sub(1);
-        self.left
-            .saturating_add(self.side.saturating_mul(before))
-            .saturating_add(self.gap)
+        u32::from(agent) <= self.left_agents
     }
 
     /// How many agents are between an agent and the platform.
     fn rank(self, agent: u8) -> u32 {
-        let (agent, left) = (u32::from(agent), self.left_agents());
+        let (agent, left) = (u32::from(agent), self.left_agents);
         if agent <= left {
             left.saturating_sub(agent)
         } else {
@@ -104,7 +102,7 @@ impl<'a> Place<'a> {
     /// The line of a slot at the platform's lifeline.
     pub fn at_platform(self, slot: u16) -> Point {
         Point {
-            x: self.platform_x(),
+            x: self.platform_x,
             y: self.line_y(slot),
         }
     }
@@ -120,9 +118,9 @@ impl<'a> Place<'a> {
     /// At this distance from the platform's lifeline, towards the agent's.
     pub fn beside_platform(self, agent: u8, distance: u32) -> u32 {
         if self.is_left(agent) {
-            self.platform_x().saturating_sub(distance)
+            self.platform_x.saturating_sub(distance)
         } else {
-            self.platform_x().saturating_add(distance)
+            self.platform_x.saturating_add(distance)
         }
     }
 
@@ -170,7 +168,7 @@ impl<'a> Place<'a> {
     /// The line between the lifelines and the columns.
     pub fn border_x(self) -> u32 {
         let (last, room) = if self.is_left(self.agents) {
-            (self.platform_x(), self.beyond)
+            (self.platform_x, self.beyond)
         } else {
             (self.agent_x(self.agents), self.side / 2)
         };
@@ -178,23 +176,18 @@ impl<'a> Place<'a> {
     }
 
     pub fn column_x(self, place: u8) -> u32 {
-        let clock = place.saturating_sub(self.domains.count);
-        let outbox = clock.saturating_sub(self.clocks.count);
-        self.border_x()
-            .saturating_add(30)
-            .saturating_add(self.domains.width_of(place.min(self.domains.count)))
-            .saturating_add(self.clocks.width_of(clock.min(self.clocks.count)))
-            .saturating_add(self.outboxes.width_of(outbox.min(self.outboxes.count)))
+        let (mut x, mut left) = (self.border_x().saturating_add(30), place);
+        for group in &self.groups {
+            let count = left.min(group.count);
+            x = x.saturating_add(group.width.saturating_mul(u32::from(count)));
+            left = left.saturating_sub(count);
+        }
+        x
     }
 
     /// The room for the name of a column of this kind.
     pub fn name_room(self, kind: Kind) -> u32 {
-        let group = match kind {
-            Kind::Domain => self.domains,
-            Kind::Clock => self.clocks,
-            Kind::Outbox(_) => self.outboxes,
-        };
-        group.width.saturating_sub(20)
+        self.groups[order_of(kind)].width.saturating_sub(20)
     }
 
     pub fn width(self) -> u32 {

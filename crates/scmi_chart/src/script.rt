@@ -2,7 +2,7 @@
 
 use crate::chart::Step;
 use crate::place::{Place, SLOT};
-use crate::shape::{NONE, NOTHING, Shape, write_shapes};
+use crate::shape::{NONE, NOTHING, Point, Shape, drawn, write_shapes};
 use crate::value::Value;
 use std::io;
 use std::io::Write;
@@ -10,7 +10,7 @@ use std::io::Write;
 /// For how many characters the sign has room that marks the cut of a line.
 const SIGN: usize = 2;
 
-const SHADE: &str = "<rect class=\"band\" x=\"14\" y=\"%\" width=\"%\" height=\"%\" rx=\"4\"/>\n";
+const SHADE: &str = "<rect class=\"%\" x=\"%\" y=\"%\" width=\"%\" height=\"%\" rx=\"4\"/>\n";
 /// A line of the script after its number.
 const LINE: &str = "<text class=\"mono line\" x=\"46\" y=\"%\">%</text>\n\
 <text class=\"mono\" x=\"56\" y=\"%\">%%</text>\n";
@@ -31,13 +31,14 @@ fn shade_of(place: Place<'_>, step: &Step) -> Shape<'static> {
     if step.number % 2 == 1 {
         return NOTHING;
     }
-    let y = Value::Number(place.slot_y(step.slot));
-    let width = Value::Number(place.width().saturating_sub(28));
-    let height = Value::Number(SLOT * u32::from(step.slots));
-    Shape {
-        text: SHADE,
-        values: [y, width, height, NONE, NONE, NONE],
-    }
+    let corner = Point {
+        x: 14,
+        y: place.slot_y(step.slot),
+    };
+    let width = place.width().saturating_sub(28);
+    let height = SLOT * u32::from(step.slots);
+    let size = [Value::Number(width), Value::Number(height), NONE];
+    drawn(SHADE, Value::Words(b"band"), corner, size)
 }
 
 /// The line of the script after its number.

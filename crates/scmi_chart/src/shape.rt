@@ -31,13 +31,6 @@ impl Point {
     }
 }
 
-/// The room for a text, and the greatest size of its font.
-#[derive(Clone, Copy)]
-pub(crate) struct Fit {
-    pub room: u32,
-    pub size: u32,
-}
-
 /// What is drawn: a text, and the values of its holes, in order. There are as many for each shape;
 /// those that have no hole are empty.
 #[derive(Clone, Copy)]
@@ -59,8 +52,6 @@ const LINE: &str = "<line class=\"%\" x1=\"%\" y1=\"%\" x2=\"%\" y2=\"%\"/>\n";
 
 const BAR: &str = "<rect class=\"%\" x=\"%\" y=\"%\" width=\"%\" height=\"%\"/>\n";
 
-const RING: &str = "<circle class=\"%\" cx=\"%\" cy=\"%\" r=\"%\"/>\n";
-
 const CROSS: &str = "<path class=\"%\" d=\"M% %m-5 -5l10 10m0 -10l-10 10\"/>\n";
 
 const WORDS: &str = "<text class=\"%\" x=\"%\" y=\"%\">%</text>\n";
@@ -75,64 +66,66 @@ pub(crate) fn write_shapes<W: Write>(writer: &mut W, shapes: &[Shape<'_>]) -> io
     Ok(())
 }
 
+/// A shape of this class at a point: the text has holes for these, and then for more values.
+pub(crate) fn drawn<'a>(
+    text: &'static str,
+    class: Value<'a>,
+    at: Point,
+    more: [Value<'a>; 3],
+) -> Shape<'a> {
+    let (x, y) = (Value::Number(at.x), Value::Number(at.y));
+    Shape {
+        text,
+        values: [class, x, y, more[0], more[1], more[2]],
+    }
+}
+
 /// A line of this class.
 pub(crate) fn line(class: &'static str, from: Point, to: Point) -> Shape<'static> {
     let class = Value::Words(class.as_bytes());
-    let (x1, y1) = (Value::Number(from.x), Value::Number(from.y));
-    let (x2, y2) = (Value::Number(to.x), Value::Number(to.y));
-    Shape {
-        text: LINE,
-        values: [class, x1, y1, x2, y2, NONE],
-    }
+    drawn(
+        LINE,
+        class,
+        from,
+        [Value::Number(to.x), Value::Number(to.y), NONE],
+    )
 }
 
 /// A box of this class, with its left upper corner at a point.
 pub(crate) fn bar(class: &'static str, corner: Point, width: u32, height: u32) -> Shape<'static> {
     let class = Value::Words(class.as_bytes());
-    let (x, y) = (Value::Number(corner.x), Value::Number(corner.y));
-    let (width, height) = (Value::Number(width), Value::Number(height));
-    Shape {
-        text: BAR,
-        values: [class, x, y, width, height, NONE],
-    }
-}
-
-/// A ring of this class around a point.
-pub(crate) fn ring(class: &'static str, center: Point, radius: u32) -> Shape<'static> {
-    let class = Value::Words(class.as_bytes());
-    let (x, y) = (Value::Number(center.x), Value::Number(center.y));
-    Shape {
-        text: RING,
-        values: [class, x, y, Value::Number(radius), NONE, NONE],
-    }
+    drawn(
+        BAR,
+        class,
+        corner,
+        [Value::Number(width), Value::Number(height), NONE],
+    )
 }
 
 /// A cross of this class over a point.
 pub(crate) fn cross(class: &'static str, center: Point) -> Shape<'static> {
-    words_in(CROSS, class, center, NONE)
+    drawn(CROSS, Value::Words(class.as_bytes()), center, [NONE; 3])
 }
 
 /// A text of this class at a point.
 pub(crate) fn words<'a>(class: &'static str, at: Point, text: Value<'a>) -> Shape<'a> {
-    words_in(WORDS, class, at, text)
-}
-
-fn words_in<'a>(shape: &'static str, class: &'static str, at: Point, text: Value<'a>) -> Shape<'a> {
-    let class = Value::Words(class.as_bytes());
-    let (x, y) = (Value::Number(at.x), Value::Number(at.y));
-    Shape {
-        text: shape,
-        values: [class, x, y, text, NONE, NONE],
-    }
+    drawn(
+        WORDS,
+        Value::Words(class.as_bytes()),
+        at,
+        [text, NONE, NONE],
+    )
 }
 
 /// A text of this class at a point, in this size or in a smaller one for which there is room.
-pub(crate) fn fitted<'a>(class: &'static str, at: Point, text: &'a [u8], fit: Fit) -> Shape<'a> {
+pub(crate) fn fitted<'a>(
+    class: &'static str,
+    at: Point,
+    text: &'a [u8],
+    room: u32,
+    size: u32,
+) -> Shape<'a> {
     let class = Value::Words(class.as_bytes());
-    let (x, y) = (Value::Number(at.x), Value::Number(at.y));
-    let size = size_in(width_of(text), fit.room, fit.size);
-    Shape {
-        text: FITTED,
-        values: [class, x, y, Value::Number(size), Value::Outside(text), NONE],
-    }
+    let size = Value::Number(size_in(width_of(text), room, size));
+    drawn(FITTED, class, at, [size, Value::Outside(text), NONE])
 }

@@ -1,7 +1,15 @@
 //! What is the same in each picture.
 
+use std::io;
+use std::io::Write;
+
+/// Writes it.
+pub(crate) fn write_style<W: Write>(writer: &mut W) -> io::Result<()> {
+    writer.write_all(STYLE.as_bytes())
+}
+
 /// Colours, fonts, the heads of arrows, and the paper.
-pub(crate) const STYLE: &str = "\
+const STYLE: &str = "\
 <style>\n\
 svg{fill:#1b2733;font:12px Inter,'Helvetica Neue','DejaVu Sans',sans-serif}\n\
 .paper{fill:#fff}\n\
