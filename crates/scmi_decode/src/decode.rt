@@ -123,7 +123,7 @@ fn decode_lines<R: CountedRead + Drop, S: Findings, N: Readings>(
         take_and_say(alloc, sink, readings, &mut dump, number, line.as_slice())?;
         if !ended {
             close_and_say(alloc, sink, readings, &mut dump)?;
-            return Ok(dump.found);
+            return Ok(dump.found());
         }
     }
     Err(DecodeError::Size)

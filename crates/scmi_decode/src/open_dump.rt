@@ -29,7 +29,7 @@ pub(crate) struct OpenDump {
     form: Form,
     end: DumpEnd,
     pub(crate) held: HeldRow,
-    pub(crate) found: bool,
+    found: bool,
     has_wide_marks: bool,
     unsaid: Unsaid,
 }
@@ -94,6 +94,13 @@ impl OpenDump {
         } else {
             lack_beside(self.end.column)
         }
+    }
+
+    /// Whether an area was found.
+    pub(crate) fn found(&self) -> bool
+        ensures { result ≡ self.now.found }
+    {
+        self.found
     }
 
     /// A row as it is after the rows of the dump, if that is not as it is alone: if these have
