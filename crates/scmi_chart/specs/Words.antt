@@ -1,7 +1,7 @@
 -- Words, numbers and names, as a chart has them.
 use Rattle.std.specs.Prelude.{ℕ, ◌-◌, false, List, [], ◌∷◌, ◌++◌, flat_map}
 use Rattle.std.specs.Fmt.{digits}
-use Rattle.scmi_chart.specs.declared.label_texts.TheConstants.{HEX, SPACE}
+use Rattle.scmi_chart.specs.declared.words.TheConstants.{HEX, SPACE}
 
 -- a number, hexadecimal
 unfoldable pub hex_text : ℕ → List ℕ

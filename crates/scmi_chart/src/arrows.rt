@@ -5,7 +5,6 @@ ghost use Rattle.scmi_chart.specs.Signs.{detail_of};
 
 use crate::asked::asked_label;
 use crate::detail::{answer_detail, message_detail, step_detail};
-use crate::label_texts::{CLOSED, FULL, OUTSTANDING, WELL_FORMED};
 use crate::mark::{Message as Arrow, Outcome};
 use crate::posted_label::posted_label;
 use crate::reply_label::answer_label;
@@ -70,10 +69,10 @@ pub(crate) fn refused_arrow(
 /// Why a post was refused, in words.
 fn refusal_words(refusal: PostError) -> &'static str {
     match refusal {
-        PostError::Outstanding => OUTSTANDING,
-        PostError::Closed => CLOSED,
-        PostError::Full => FULL,
-        PostError::WellFormed => WELL_FORMED,
+        PostError::Outstanding => "not posted: outstanding",
+        PostError::Closed => "not posted: closed",
+        PostError::Full => "not posted: full",
+        PostError::WellFormed => "not posted: well formed",
     }
 }
 

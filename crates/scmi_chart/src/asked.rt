@@ -2,7 +2,6 @@
 
 use crate::fields::add_fields;
 use crate::label::{name_label, name_of, plain_label};
-use crate::label_texts::{ITSELF, LENGTH, MALFORMED, TYPE};
 use crate::mark::Label;
 use crate::posts::message_of;
 use crate::words::{numbered_words, payload_words};
@@ -31,8 +30,8 @@ pub(crate) fn asked_label(
 }
 
 fn malformed_label(alloc: Global, length: u32) -> Result<Label, AllocError> {
-    let mut label = plain_label(alloc, MALFORMED)?;
-    label.object = numbered_words(alloc, LENGTH, length)?;
+    let mut label = plain_label(alloc, "malformed")?;
+    label.object = numbered_words(alloc, "length %", length)?;
     Ok(label)
 }
 
@@ -42,7 +41,7 @@ fn command_label(alloc: Global, board: &RawPlan, message: &Message) -> Result<La
     let mut label = name_label(alloc, name_of(alloc, header.protocol(), header.id())?);
     add_command(alloc, board, &mut label, message)?;
     if asks_for_itself(message) {
-        label.object = Vec::from_slice(alloc, ITSELF.as_bytes())?;
+        label.object = Vec::from_slice(alloc, b"itself")?;
     }
     add_kind(alloc, &mut label, header.kind())?;
     Ok(label)
@@ -81,7 +80,7 @@ fn asks_for_itself(message: &Message) -> bool {
 /// Adds the type of a message that is no command.
 fn add_kind(alloc: Global, label: &mut Label, kind: u8) -> Result<(), AllocError> {
     if kind != 0 {
-        label.tag = numbered_words(alloc, TYPE, u32::from(kind))?;
+        label.tag = numbered_words(alloc, "type %", u32::from(kind))?;
     }
     Ok(())
 }

@@ -1,6 +1,5 @@
 //! The names of a board's agents, domains and clocks.
 
-use crate::label_texts::{AGENT, CLOCK, DOMAIN, PLATFORM};
 use crate::words::numbered_words;
 use scmi_plan::RawPlan;
 use std::alloc::{AllocError, Global};
@@ -12,11 +11,11 @@ pub(crate) fn agent_name(
     agent: u32,
 ) -> Result<Vec<u8>, AllocError> {
     if agent == 0 {
-        return Vec::from_slice(alloc, PLATFORM.as_bytes());
+        return Vec::from_slice(alloc, b"platform");
     }
     match board.agents.get(agent as usize - 1) {
         Some(name) => Vec::from_slice(alloc, name.as_bytes()),
-        None => numbered_words(alloc, AGENT, agent),
+        None => numbered_words(alloc, "agent %", agent),
     }
 }
 
@@ -28,7 +27,7 @@ pub(crate) fn domain_name(
 ) -> Result<Vec<u8>, AllocError> {
     match board.domains.get(domain as usize) {
         Some(domain) => Vec::from_slice(alloc, domain.name.as_bytes()),
-        None => numbered_words(alloc, DOMAIN, domain),
+        None => numbered_words(alloc, "domain %", domain),
     }
 }
 
@@ -40,6 +39,6 @@ pub(crate) fn clock_name(
 ) -> Result<Vec<u8>, AllocError> {
     match board.clocks.get(clock as usize) {
         Some(clock) => Vec::from_slice(alloc, clock.name.as_bytes()),
-        None => numbered_words(alloc, CLOCK, clock),
+        None => numbered_words(alloc, "clock %", clock),
     }
 }

@@ -1,11 +1,11 @@
 //! Marks, as they are drawn.
 
 use crate::drawn_label::write_label;
-use crate::event::{close, execution, fault, note, pill, restart};
+use crate::event::{close, execution, fault, note, pill, post, restart};
 use crate::mark::{Mark, Outcome};
 use crate::message::{token_of, way_of};
 use crate::place::Place;
-use crate::shape::{NONE, NOTHING, Point, Shape, drawn, write_shapes};
+use crate::shape::{NONE, Point, Shape, write_shapes};
 use crate::value::Value;
 use std::io;
 use std::io::Write;
@@ -13,9 +13,6 @@ use std::io::Write;
 const BEGIN: &str = "<g class=\"mark %\">\n";
 /// What is shown when a reader points at a mark.
 const DETAIL: &str = "<title>%</title>\n";
-
-/// Where the platform posts a message.
-const RING: &str = "<circle class=\"%\" cx=\"%\" cy=\"%\" r=\"4\"/>\n";
 
 const END: &str = "</g>\n";
 
@@ -26,13 +23,14 @@ pub(crate) fn write_mark<W: Write>(
     mark: &Mark,
 ) -> io::Result<()> {
     write_shapes(writer, &head_of(mark))?;
-    write_shapes(writer, &sign_of(place, mark))?;
+    write_sign(writer, place, mark)?;
     if let Some(message) = mark.message() {
+        write_shapes(writer, &way_of(place, mark, message))?;
         let at = Point {
             x: place.words_x(message.agent),
             y: place.line_y(message.slot).saturating_sub(6),
         };
-        write_label(writer, &message.label, at, place.room())?;
+        write_label(writer, &message.label, at, place.room)?;
     }
     write_shapes(writer, &token_of(place, mark))?;
     writer.write_all(END.as_bytes())
@@ -85,36 +83,32 @@ pub(crate) fn class_of(mark: &Mark) -> &'static str {
     }
 }
 
-/// What is drawn of a mark, but for words and token of its message.
-fn sign_of<'a>(place: Place<'_>, mark: &'a Mark) -> [Shape<'a>; 3] {
+/// Writes what is drawn of a mark, but for its message.
+fn write_sign<W: Write>(writer: &mut W, place: Place<'_>, mark: &Mark) -> io::Result<()> {
     match mark {
-        Mark::Execution { slot, until } => [execution(place, *slot, *until), NOTHING, NOTHING],
-        Mark::Posted { slot } => {
-            let ring = drawn(
-                RING,
-                Value::Words(b"post"),
-                place.at_platform(*slot),
-                [NONE; 3],
-            );
-            [ring, NOTHING, NOTHING]
-        }
+        Mark::Execution { slot, until } => write_shapes(writer, &[execution(place, *slot, *until)]),
+        Mark::Posted { slot } => write_shapes(writer, &[post(place, *slot)]),
         Mark::Advance { slot, text, .. } | Mark::Failed { slot, text } => {
-            pill(place, *slot, "advance", text)
+            write_shapes(writer, &pill(place, *slot, "advance", text))
         }
         Mark::Closed {
             agent,
             slot,
             by,
             text,
-        } => close(place, *agent, *slot, *by, text),
+        } => write_shapes(writer, &close(place, *agent, *slot, *by, text)),
         Mark::Remark {
             agent,
             slot,
             beside,
             text,
-        } => note(place, *agent, *slot, *beside, text, 10),
-        Mark::Fault { agent, slot, text } => fault(place, *agent, *slot, text),
-        Mark::Restarted { agent, slot, text } => restart(place, *agent, *slot, text),
-        _ => way_of(place, mark),
+        } => write_shapes(writer, &note(place, *agent, *slot, *beside, text, 10)),
+        Mark::Fault { agent, slot, text } => {
+            write_shapes(writer, &fault(place, *agent, *slot, text))
+        }
+        Mark::Restarted { agent, slot, text } => {
+            write_shapes(writer, &restart(place, *agent, *slot, text))
+        }
+        _ => Ok(()),
     }
 }

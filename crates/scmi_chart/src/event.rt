@@ -11,6 +11,18 @@ use crate::value::Value;
 const PILL: &str = "<text class=\"%\" x=\"%\" y=\"%\"><tspan class=\"name\">%</tspan>\
 <tspan class=\"object\" dx=\"6\">%</tspan></text>\n";
 
+const RING: &str = "<circle class=\"%\" cx=\"%\" cy=\"%\" r=\"4\"/>\n";
+
+/// A ring where the platform posts a message.
+pub(crate) fn post(place: Place<'_>, slot: u16) -> Shape<'static> {
+    drawn(
+        RING,
+        Value::Words(b"post"),
+        place.at_platform(slot),
+        [NONE; 3],
+    )
+}
+
 /// How long the platform executes.
 pub(crate) fn execution(place: Place<'_>, slot: u16, until: u16) -> Shape<'static> {
     let corner = place.at_platform(slot).before(4, 4);
@@ -26,7 +38,7 @@ pub(crate) fn restart<'a>(
     text: &'a [u8],
 ) -> [Shape<'a>; 3] {
     let corner = place.at_agent(agent, slot).before(9, 6);
-    let [pill, words, _] = pill(place, slot, "restart", text);
+    let [pill, words] = pill(place, slot, "restart", text);
     [bar("again", corner, 18, 5), pill, words]
 }
 
@@ -36,14 +48,13 @@ pub(crate) fn pill<'a>(
     slot: u16,
     word: &'static str,
     text: &'a [u8],
-) -> [Shape<'a>; 3] {
+) -> [Shape<'a>; 2] {
     let width = width_in(text, 11).saturating_add(76);
     let at = place.at_platform(slot);
     let words = [Value::Words(word.as_bytes()), Value::Outside(text), NONE];
     [
         bar("pill", at.before(width / 2, 16), width, 23),
         drawn(PILL, Value::Words(b"sign"), at, words),
-        NOTHING,
     ]
 }
 
@@ -59,7 +70,7 @@ pub(crate) fn close<'a>(
         Side::Agent => place.at_agent(agent, slot),
         Side::Platform => place.at_platform(slot),
     };
-    let [lead, words, _] = note(place, agent, slot, by, text, 11);
+    let [lead, words] = note(place, agent, slot, by, text, 11);
     [cross("shut", at.before(0, 4)), lead, words]
 }
 
@@ -72,7 +83,7 @@ pub(crate) fn note<'a>(
     beside: Side,
     text: &'a [u8],
     size: u32,
-) -> [Shape<'a>; 3] {
+) -> [Shape<'a>; 2] {
     let y = place.line_y(slot);
     let is_left = place.is_left(agent);
     let up = y.saturating_sub(4);
@@ -92,10 +103,10 @@ pub(crate) fn note<'a>(
         class_from(is_from_left),
         Point { x, y },
         text,
-        place.room(),
+        place.room,
         size,
     );
-    [lead, words, NOTHING]
+    [lead, words]
 }
 
 /// The class of words that begin at their place, or end there.
@@ -105,7 +116,7 @@ fn class_from(is_from_left: bool) -> &'static str {
 
 /// That the hardware refused what an agent's command was to change, beside the platform's lifeline
 /// and away from the agent's, where the command has no arrow.
-pub(crate) fn fault<'a>(place: Place<'_>, agent: u8, slot: u16, text: &'a [u8]) -> [Shape<'a>; 3] {
+pub(crate) fn fault<'a>(place: Place<'_>, agent: u8, slot: u16, text: &'a [u8]) -> [Shape<'a>; 2] {
     let at = place.at_platform(slot);
     let is_left = place.is_left(agent);
     let (sign, words) = if is_left {
@@ -113,7 +124,7 @@ pub(crate) fn fault<'a>(place: Place<'_>, agent: u8, slot: u16, text: &'a [u8]) 
     } else {
         (at.before(52, 0), at.before(66, 0))
     };
-    let room = place.room().saturating_sub(14);
+    let room = place.room.saturating_sub(14);
     let words = fitted(class_from(is_left), words, text, room, 10);
-    [cross("lost", sign.before(0, 4)), words, NOTHING]
+    [cross("lost", sign.before(0, 4)), words]
 }

@@ -1,6 +1,6 @@
 //! Commands that the platform executed.
-ghost use Rattle.std.specs.Prelude.{◌≡◌, [], ◌∷◌, OnOk, Some};
-ghost use Rattle.scmi_chart.specs.Signs.{executed, served_signs};
+ghost use Rattle.std.specs.Prelude.{◌≡◌, OnOk};
+ghost use Rattle.scmi_chart.specs.Signs.{served_signs};
 ghost use Rattle.scmi_chart.specs.Service.{if_done};
 ghost use Rattle.scmi_chart.specs.Shown.{serves};
 
@@ -23,21 +23,11 @@ impl<'a> Recorder<'a> {
     {
         match served {
             Served::Nothing => self.remark(agent, slot, Side::Platform, "nothing to serve"),
-            Served::Done => self.record_execution(agent, slot, slot),
+            Served::Done => {
+                self.parties.set(agent, Event::Answered, Some(slot));
+                self.marks.serve(agent, slot);
+                self.marks.add(Mark::Execution { slot, until: slot })
+            }
         }
-    }
-
-    /// The platform took the agent's command in this slot, and answered it until another.
-    pub(crate) fn record_execution(
-        &mut self,
-        agent: u8,
-        slot: u16,
-        until: u16,
-    ) -> Result<(), AllocError>
-        ensures { OnOk result (self.new ≡ serves (Some agent) (executed ∷ []) self.old) }
-    {
-        self.parties.set(agent, Event::Answered, Some(until));
-        self.marks.serve(agent, slot);
-        self.marks.add(Mark::Execution { slot, until })
     }
 }

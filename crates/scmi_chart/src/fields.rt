@@ -3,7 +3,6 @@
 use crate::board_names::{agent_name, clock_name, domain_name};
 use crate::flags::{PERMIT, POWER, RATE, RESET, SWITCH, add_flags};
 use crate::label::{add_behind, add_remark, protocol_words};
-use crate::label_texts::{BY, COUNTS, DEVICE, FROM, SKIP, VERSION};
 use crate::mark::Label;
 use crate::value::{Value, filled_words};
 use crate::words::{hex_words, name_words, numbered_words, rate_words, state_words, switch_word};
@@ -47,13 +46,13 @@ fn add_field(
             label.value = Vec::from_slice(alloc, switch_word(*bits).as_bytes())?;
             add_flags(alloc, label, SWITCH, *bits)?;
         }
-        Field::Device(device) => label.value = numbered_words(alloc, DEVICE, *device)?,
+        Field::Device(device) => label.value = numbered_words(alloc, "device %", *device)?,
         Field::Protocol(protocol) => {
             add_behind(&mut label.value, &protocol_words(alloc, *protocol)?)?;
         }
         Field::By(agent) => add_cause(alloc, board, label, *agent)?,
-        Field::Index(index) => add_remark(label, &numbered_words(alloc, FROM, *index)?)?,
-        Field::Skip(count) => add_remark(label, &numbered_words(alloc, SKIP, *count)?)?,
+        Field::Index(index) => add_remark(label, &numbered_words(alloc, "from %", *index)?)?,
+        Field::Skip(count) => add_remark(label, &numbered_words(alloc, "skip %", *count)?)?,
         Field::PowerFlags(bits) => add_flags(alloc, label, POWER, *bits)?,
         Field::PermitFlags(bits) => add_flags(alloc, label, PERMIT, *bits)?,
         Field::ResetFlags(bits) => add_flags(alloc, label, RESET, *bits)?,
@@ -75,13 +74,13 @@ fn set_value(label: &mut Label, words: Vec<u8>) {
 /// The version of a protocol.
 fn version_words(alloc: Global, word: u32) -> Result<Vec<u8>, AllocError> {
     let numbers = [Value::Number(word >> 16), Value::Number(word % 65536)];
-    filled_words(alloc, VERSION, &numbers)
+    filled_words(alloc, "version %.%", &numbers)
 }
 
 /// How many agents and protocols there are.
 fn counts_words(alloc: Global, word: u32) -> Result<Vec<u8>, AllocError> {
     let numbers = [Value::Number(word / 256 % 256), Value::Number(word % 256)];
-    filled_words(alloc, COUNTS, &numbers)
+    filled_words(alloc, "% agents, % protocols", &numbers)
 }
 
 /// Adds who caused a change, as a comment.
@@ -92,5 +91,5 @@ fn add_cause(
     agent: u32,
 ) -> Result<(), AllocError> {
     let name = agent_name(alloc, board, agent)?;
-    add_remark(label, &filled_words(alloc, BY, &[Value::Words(&name)])?)
+    add_remark(label, &filled_words(alloc, "by %", &[Value::Words(&name)])?)
 }

@@ -1,7 +1,6 @@
 //! What the flags of a message add to its label.
 
 use crate::label::add_remark;
-use crate::label_texts::{ALLOW, ASYNC, DENY, FLAGS, NEAREST, NO_RESPONSE, PERMISSIONS, UP};
 use crate::mark::Label;
 use crate::value::{Value, filled_words};
 use std::alloc::{AllocError, Global};
@@ -23,27 +22,27 @@ pub(crate) const SWITCH: Flags = Flags {
 
 pub(crate) const POWER: Flags = Flags {
     known: 1,
-    comments: &[(1, 1, ASYNC)],
+    comments: &[(1, 1, "async")],
 };
 
 pub(crate) const PERMIT: Flags = Flags {
     known: 1,
-    comments: &[(1, 1, ALLOW), (1, 0, DENY)],
+    comments: &[(1, 1, "allow"), (1, 0, "deny")],
 };
 
 pub(crate) const RESET: Flags = Flags {
     known: 1,
-    comments: &[(1, 1, PERMISSIONS)],
+    comments: &[(1, 1, "and permissions")],
 };
 
 /// When a rate set takes effect, whether it is announced, and how the rate is rounded.
 pub(crate) const RATE: Flags = Flags {
     known: 15,
     comments: &[
-        (1, 1, ASYNC),
-        (2, 2, NO_RESPONSE),
-        (8, 8, NEAREST),
-        (12, 4, UP),
+        (1, 1, "async"),
+        (2, 2, "no response"),
+        (8, 8, "nearest"),
+        (12, 4, "up"),
     ],
 };
 
@@ -62,5 +61,5 @@ pub(crate) fn add_flags(
     if bits <= flags.known {
         return Ok(());
     }
-    add_remark(label, &filled_words(alloc, FLAGS, &[Value::Hex(bits)])?)
+    add_remark(label, &filled_words(alloc, "flags %", &[Value::Hex(bits)])?)
 }

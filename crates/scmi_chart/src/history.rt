@@ -2,7 +2,7 @@
 ghost use Rattle.std.specs.Prelude.{◌≡◌, ◌++◌, ◌∷◌, [], ◌≤◌, length, nat_eq, IfOk, OnOk};
 ghost use Rattle.std.specs.List.{count_by};
 ghost use Rattle.scmi_plan.specs.declared.limits.TheConstants.{AGENTS};
-ghost use Rattle.scmi_chart.specs.History.{call_of, closes_from, malformed_steps, receivers, report_steps, steps_of_event, steps_of_run, taken_by, taking_steps};
+ghost use Rattle.scmi_chart.specs.History.{call_of, closes_from, malformed_steps, receivers, steps_of_event, steps_of_run, taken_by, taking_steps};
 
 use scmi_codec::{Frame, Message, payload_of};
 use scmi_core::{Event, Trace};
@@ -59,11 +59,18 @@ fn add_event(
         Event::AdvanceFailed(fault) => add(steps, Step::AdvanceFailed { fault: *fault }),
         Event::Sent(agent) => add_message(steps, sent, logs, *agent),
         Event::Restarted(agent) => add(steps, Step::Restart { agent: *agent }),
-        Event::Reported(effect) => add_report(steps, Report::Changed(*effect)),
-        Event::Promoted(place) => add_report(steps, Report::First(*place)),
+        Event::Reported(effect) => {
+            let report = Report::Changed(*effect);
+            add(steps, Step::Report { report })
+        }
+        Event::Promoted(place) => {
+            let report = Report::First(*place);
+            add(steps, Step::Report { report })
+        }
         Event::Settled(clock, rate) => {
             let (clock, rate) = (*clock, *rate);
-            add_report(steps, Report::Settled { clock, rate })
+            let report = Report::Settled { clock, rate };
+            add(steps, Step::Report { report })
         }
     }
 }
@@ -73,13 +80,6 @@ fn add(steps: &mut Vec<Step>, step: Step) -> Result<(), AllocError>
     ensures { OnOk result (steps.new.items ≡ steps.old.items ++ step ∷ []) }
 {
     Ok(steps.push(step)?)
-}
-
-/// Adds the step in which the hardware reports this.
-fn add_report(steps: &mut Vec<Step>, report: Report) -> Result<(), AllocError>
-    ensures { OnOk result (steps.new.items ≡ steps.old.items ++ report_steps report) }
-{
-    add(steps, Step::Report { report })
 }
 
 /// A command but for its token: the agent's next, as of each command that an agent in a thread

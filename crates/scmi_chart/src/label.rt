@@ -1,6 +1,5 @@
 //! What messages are about, in words.
 
-use crate::label_texts::{COMMA, PROTOCOL, UNNAMED};
 use crate::mark::Label;
 use crate::value::{Value, filled_words};
 use scmi_codec::message_name;
@@ -29,7 +28,7 @@ pub(crate) fn name_of(alloc: Global, protocol: u8, id: u8) -> Result<Vec<u8>, Al
     }
     let protocol = protocol_words(alloc, u32::from(protocol))?;
     let ids = [Value::Words(&protocol), Value::Hex(u32::from(id))];
-    filled_words(alloc, UNNAMED, &ids)
+    filled_words(alloc, "% %", &ids)
 }
 
 /// The short name of a protocol, or its number.
@@ -39,13 +38,13 @@ pub(crate) fn protocol_words(alloc: Global, protocol: u32) -> Result<Vec<u8>, Al
     {
         return Vec::from_slice(alloc, name.as_bytes());
     }
-    filled_words(alloc, PROTOCOL, &[Value::Hex(protocol)])
+    filled_words(alloc, "protocol %", &[Value::Hex(protocol)])
 }
 
 /// Adds words after the present ones, with a comma between.
 pub(crate) fn add_behind(words: &mut Vec<u8>, more: &[u8]) -> Result<(), AllocError> {
     if !words.is_empty() {
-        words.extend_from_slice(COMMA.as_bytes())?;
+        words.extend_from_slice(b", ")?;
     }
     words.extend_from_slice(more)
 }

@@ -129,37 +129,46 @@ pub(crate) fn write_legend<W: Write>(writer: &mut W, legend: &Legend, y: u32) ->
 }
 
 fn is_used(chart: &Chart, place: Where) -> bool {
+    for mark in &chart.marks {
+        if is_in_mark(mark, place) {
+            return true;
+        }
+    }
+    for column in &chart.columns {
+        if is_in_column(column, place) {
+            return true;
+        }
+    }
+    false
+}
+
+fn is_in_mark(mark: &Mark, place: Where) -> bool {
     match place {
-        Where::Mark(class) => chart
-            .marks
-            .iter()
-            .any(|mark: &Mark| class_of(mark) == class),
-        Where::Token => chart.marks.iter().any(has_token),
-        Where::Lost => chart.marks.iter().any(is_lost),
-        Where::Held => chart.columns.iter().any(has_pending),
-        Where::Dropped => chart
-            .columns
-            .iter()
-            .any(|column: &Column| !column.drops.is_empty()),
+        Where::Mark(class) => class_of(mark) == class,
+        Where::Token => matches!(
+            mark,
+            Mark::Command { token: Some(_), .. }
+                | Mark::Withdrawn { token: Some(_), .. }
+                | Mark::Delayed { .. }
+        ),
+        Where::Lost => matches!(mark, Mark::Withdrawn { .. } | Mark::Refused { .. }),
+        Where::Held | Where::Dropped => false,
     }
 }
 
-fn has_token(mark: &Mark) -> bool {
-    matches!(
-        mark,
-        Mark::Command { token: Some(_), .. }
-            | Mark::Withdrawn { token: Some(_), .. }
-            | Mark::Delayed { .. }
-    )
+fn is_in_column(column: &Column, place: Where) -> bool {
+    match place {
+        Where::Held => has_pending(&column.spans),
+        Where::Dropped => !column.drops.is_empty(),
+        Where::Mark(_) | Where::Token | Where::Lost => false,
+    }
 }
 
-fn is_lost(mark: &Mark) -> bool {
-    matches!(mark, Mark::Withdrawn { .. } | Mark::Refused { .. })
-}
-
-fn has_pending(column: &Column) -> bool {
-    column
-        .spans
-        .iter()
-        .any(|span: &Span| span.state == State::Pending)
+fn has_pending(spans: &[Span]) -> bool {
+    for span in spans {
+        if matches!(span.state, State::Pending) {
+            return true;
+        }
+    }
+    false
 }

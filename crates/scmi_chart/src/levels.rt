@@ -2,13 +2,50 @@
 //! were dropped.
 use crate::board_names::{agent_name, clock_name, domain_name};
 use crate::chart::{Column, Dropped, Span, State};
-use crate::dropped_words::dropped_words;
-use crate::level::Level;
 use crate::subject::Subject;
+use crate::value::{Value, filled_words};
 use crate::words::{rate_words, state_words};
 use scmi_core::Core;
 use scmi_plan::RawPlan;
 use std::alloc::{AllocError, Global};
+
+/// A state that lasts, and since when.
+#[derive(Clone, Copy)]
+struct Level {
+    since: u16,
+    state: Option<State>,
+}
+
+impl Level {
+    /// From this time on the state is this one: what lasted until then is a span. Returns whether
+    /// it is another state.
+    fn change(
+        &mut self,
+        spans: &mut Vec<Span>,
+        time: u16,
+        state: Option<State>,
+    ) -> Result<bool, AllocError> {
+        if self.state == state {
+            return Ok(false);
+        }
+        self.end(spans, time)?;
+        self.since = time;
+        self.state = state;
+        Ok(true)
+    }
+
+    /// What lasted until this time is a span.
+    fn end(&self, spans: &mut Vec<Span>, time: u16) -> Result<(), AllocError> {
+        if let Some(state) = self.state {
+            spans.push(Span {
+                since: self.since,
+                until: time,
+                state,
+            })?;
+        }
+        Ok(())
+    }
+}
 
 /// The states of one domain, clock or outbox.
 #[derive(Drop)]
@@ -34,15 +71,17 @@ impl Levels {
     /// The states with which a platform begins.
     pub fn new(alloc: Global, core: &Core) -> Result<Levels, AllocError> {
         let mut tracks = Vec::new(alloc);
-        let board = core.board();
-        for domain in 0..board.domains() {
-            tracks.push(Track::new(alloc, Subject::Domain(domain), core))?;
-        }
-        for clock in 0..board.clocks() {
-            tracks.push(Track::new(alloc, Subject::Clock(clock), core))?;
-        }
-        for agent in 1..=board.agents() {
-            tracks.push(Track::new(alloc, Subject::Outbox(agent), core))?;
+        let (domains, clocks) = (core.board().domains(), core.board().clocks());
+        let resources = domains.saturating_add(clocks);
+        for i in 0..resources.saturating_add(core.board().agents()) {
+            let subject = if i < domains {
+                Subject::Domain(i)
+            } else if i < resources {
+                Subject::Clock(i - domains)
+            } else {
+                Subject::Outbox(i - resources + 1)
+            };
+            tracks.push(Track::new(alloc, subject, core))?;
         }
         Ok(Levels { tracks, time: 0 })
     }
@@ -198,4 +237,22 @@ impl Track {
             drops: self.drops,
         })
     }
+}
+
+/// That the notification of a domain's state for an agent was dropped, for a reader who points at
+/// the mark.
+fn dropped_words(
+    alloc: Global,
+    board: &RawPlan,
+    agent: u32,
+    domain: u32,
+) -> Result<Vec<u8>, AllocError> {
+    let domain = domain_name(alloc, board, domain)?;
+    let agent = agent_name(alloc, board, agent)?;
+    let names = [Value::Words(&domain), Value::Words(&agent)];
+    filled_words(
+        alloc,
+        "the notification of % for % was dropped: its outbox has no room",
+        &names,
+    )
 }

@@ -65,7 +65,7 @@ fn strokes_of(place: Place<'_>, lifeline: &Lifeline) -> [Shape<'static>; 2] {
 
 /// The box of an agent's name.
 fn head_of<'a>(place: Place<'_>, lifeline: &'a Lifeline) -> [Shape<'a>; 3] {
-    let (x, width) = (place.agent_x(lifeline.agent), place.head());
+    let (x, width) = (place.agent_x(lifeline.agent), place.head);
     let left = x.saturating_sub(width / 2);
     let agent = Value::Number(u32::from(lifeline.agent));
     let what = Value::Words(b"what");
@@ -139,7 +139,7 @@ fn write_row<W: Write>(writer: &mut W, place: Place<'_>, chart: &Chart, y: u32) 
 fn name_of<'a>(place: Place<'_>, lifeline: &'a Lifeline, y: u32) -> Shape<'a> {
     let agent = Value::Number(u32::from(lifeline.agent));
     let x = place.agent_x(lifeline.agent);
-    let size = Value::Number(size_in(width_of(&lifeline.name), place.head(), AGAIN));
+    let size = Value::Number(size_in(width_of(&lifeline.name), place.head, AGAIN));
     let name = Value::Outside(&lifeline.name);
     drawn(NAME_AGAIN, agent, Point { x, y }, [size, name, NONE])
 }

@@ -10,13 +10,10 @@ const RING: &str = "<circle class=\"a% token\" cx=\"%\" cy=\"%\" r=\"%\"/>\n";
 
 const TOKEN: &str = "<text class=\"a% in\" x=\"%\" y=\"%\" dy=\"3\">%</text>\n";
 
-/// The way of the message that a mark shows, if it does. What waited did so beside the platform if
-/// it is a command, and else beside the agent. One that never was executed ends in a cross where
-/// commands wait, and one that could not be posted in a cross beside its agent.
-pub(crate) fn way_of(place: Place<'_>, mark: &Mark) -> [Shape<'static>; 3] {
-    let Some(message) = mark.message() else {
-        return [NOTHING, NOTHING, NOTHING];
-    };
+/// The way of the message that a mark shows. What waited did so beside the platform if it is a
+/// command, and else beside the agent. One that never was executed ends in a cross where commands
+/// wait, and one that could not be posted in a cross beside its agent.
+pub(crate) fn way_of(place: Place<'_>, mark: &Mark, message: &Message) -> [Shape<'static>; 3] {
     let agent = message.agent;
     let (lifeline, platform) = (place.agent_x(agent), place.beside_platform(agent, 5));
     match mark {

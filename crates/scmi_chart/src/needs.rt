@@ -1,6 +1,7 @@
 //! How much room the parts of a chart need, in pixels.
+ghost use Rattle.std.specs.Prelude.{◌<◌};
 
-use crate::chart::{Column, Dropped, Kind, Lifeline, Span, State, Step};
+use crate::chart::{Column, Kind, Lifeline, Span, State, Step};
 use crate::drawn_label::label_needs;
 use crate::mark::Mark;
 use crate::measure::width_in;
@@ -59,11 +60,11 @@ pub(crate) fn bounds_of(agents: usize) -> Bounds {
 
 /// The room that the lines of a script need.
 pub(crate) fn script_of(steps: &[Step], bounds: Bounds) -> u32 {
-    let longest = steps
-        .iter()
-        .map(|step: &Step| step.text.len().min(bounds.shown))
-        .max();
-    76 + 6 * longest.unwrap_or(0).max(14).min(60) as u32
+    let mut longest = 14;
+    for step in steps {
+        longest = longest.max(step.text.len().min(bounds.shown));
+    }
+    76 + 6 * longest.min(60) as u32
 }
 
 /// The room that the words of a mark need beside the platform.
@@ -83,15 +84,6 @@ fn mark_width(mark: &Mark, bounds: Bounds) -> u32 {
     }
 }
 
-/// The distance between the platform and the nearest agent.
-pub(crate) fn gap_of(marks: &[Mark], bounds: Bounds) -> u32 {
-    let widest = marks
-        .iter()
-        .map(|mark: &Mark| mark_width(mark, bounds))
-        .max();
-    widest.unwrap_or(0).max(GAP).min(bounds.gap)
-}
-
 /// The room that a mark needs beside the platform where no agent is.
 fn width_beyond(mark: &Mark) -> u32 {
     match mark {
@@ -103,20 +95,24 @@ fn width_beyond(mark: &Mark) -> u32 {
     }
 }
 
-/// The room beside the platform where no agent is: that of half its box, at least.
-pub(crate) fn beyond_of(marks: &[Mark]) -> u32 {
-    let widest = marks.iter().map(width_beyond).max();
-    widest.unwrap_or(0).max(PLATFORM).min(300)
+/// The distance between the platform and the nearest agent, and the room beside the platform where
+/// no agent is: that of half its box, at least.
+pub(crate) fn gap_of(marks: &[Mark], bounds: Bounds) -> (u32, u32) {
+    let (mut gap, mut beyond) = (GAP, PLATFORM);
+    for mark in marks {
+        gap = gap.max(mark_width(mark, bounds));
+        beyond = beyond.max(width_beyond(mark));
+    }
+    (gap.min(bounds.gap), beyond.min(300))
 }
 
 /// The distance between two agents on one side: the box of a name, and some room.
 pub(crate) fn side_of(lifelines: &[Lifeline], bounds: Bounds) -> u32 {
-    let widest = lifelines
-        .iter()
-        .map(|lifeline: &Lifeline| width_in(&lifeline.name, bounds.name))
-        .max();
-    let side = widest.unwrap_or(0).saturating_add(bounds.space);
-    side.max(bounds.side).min(bounds.wide_side)
+    let mut side = bounds.side;
+    for lifeline in lifelines {
+        side = side.max(width_in(&lifeline.name, bounds.name).saturating_add(bounds.space));
+    }
+    side.min(bounds.wide_side)
 }
 
 /// The room that a state and its words need.
@@ -142,13 +138,11 @@ fn bar_width(span: &Span) -> u32 {
 
 /// Where a name that is written again begins, beside the bars of its column, which it would cover.
 pub(crate) fn beside_bars(column: &Column) -> u32 {
-    let widest = column.spans.iter().map(bar_width).max();
-    widest.unwrap_or(0).max(10)
-}
-
-/// The room that the mark of notifications that were dropped needs.
-fn drop_width(dropped: &Dropped) -> u32 {
-    if dropped.count == 1 { 138 } else { 162 }
+    let mut widest = 10;
+    for span in &column.spans {
+        widest = widest.max(bar_width(span));
+    }
+    widest
 }
 
 /// The room that the name and the states of a column need.
@@ -160,11 +154,14 @@ fn column_width(column: &Column, bounds: Bounds) -> u32 {
         .min(bounds.column / 6 * 5)
         .saturating_add(18)
         .saturating_add(beside_bars(column));
-    let spans = column.spans.iter().map(span_width).max();
-    let drops = column.drops.iter().map(drop_width).max();
-    name.max(again)
-        .max(spans.unwrap_or(0))
-        .max(drops.unwrap_or(0))
+    let mut widest = name.max(again);
+    for span in &column.spans {
+        widest = widest.max(span_width(span));
+    }
+    for dropped in &column.drops {
+        widest = widest.max(if dropped.count == 1 { 138 } else { 162 });
+    }
+    widest
 }
 
 /// Columns of one kind, which are side by side.
@@ -176,7 +173,9 @@ pub(crate) struct Group {
 }
 
 /// The place of a kind in the order of columns.
-pub(crate) fn order_of(kind: Kind) -> usize {
+pub(crate) fn order_of(kind: Kind) -> usize
+    ensures { result < 3 }
+{
     match kind {
         Kind::Domain => 0,
         Kind::Clock => 1,

@@ -13,55 +13,42 @@ pub(crate) enum Event {
     Closed,
 }
 
-/// In which slot each of these happened to an agent, if it did.
-#[derive(Clone, Copy)]
-struct Party {
-    answered: Option<u16>,
-    posted: Option<u16>,
-    closed: Option<u16>,
+impl Event {
+    /// The place of this event of an agent among those of all.
+    fn place(self, agent: u8) -> usize {
+        let first = 3 * usize::from(agent.wrapping_sub(1));
+        match self {
+            Event::Answered => first,
+            Event::Posted => first + 1,
+            Event::Closed => first + 2,
+        }
+    }
 }
 
-/// What is under way between the agents of a board and the platform. An agent that the board lacks
-/// has nothing under way.
+/// What is under way between the agents of a board and the platform: of each agent and event the
+/// slot in which it happened, if it did. An agent that the board lacks has nothing under way.
 #[derive(Drop)]
 pub(crate) struct Parties {
-    parties: Vec<Party>,
+    slots: Vec<Option<u16>>,
 }
 
 impl Parties {
     /// Nothing is under way for this many agents.
     pub fn new(alloc: Global, agents: usize) -> Result<Parties, AllocError> {
-        let mut parties = Vec::new(alloc);
-        for _ in 0..agents {
-            parties.push(Party {
-                answered: None,
-                posted: None,
-                closed: None,
-            })?;
-        }
-        Ok(Parties { parties })
+        let slots = vec![in alloc; None; agents.saturating_mul(3)]?;
+        Ok(Parties { slots })
     }
 
     /// An event happened to the agent in this slot, or is over.
     pub fn set(&mut self, agent: u8, event: Event, slot: Option<u16>) {
-        let place = usize::from(agent).wrapping_sub(1);
-        if place < self.parties.len() {
-            match event {
-                Event::Answered => self.parties[place].answered = slot,
-                Event::Posted => self.parties[place].posted = slot,
-                Event::Closed => self.parties[place].closed = slot,
-            }
+        if let Some(place) = self.slots.get_mut(event.place(agent)) {
+            *place = slot;
         }
     }
 
     /// The slot in which an event happened to the agent, if it did.
     pub fn slot(&self, agent: u8, event: Event) -> Option<u16> {
-        let party = self.parties.get(usize::from(agent).wrapping_sub(1))?;
-        match event {
-            Event::Answered => party.answered,
-            Event::Posted => party.posted,
-            Event::Closed => party.closed,
-        }
+        *self.slots.get(event.place(agent))?
     }
 
     /// The same, of an event that is over now.

@@ -85,6 +85,6 @@ fn titles_of(chart: &Chart) -> [Shape<'_>; 2] {
 
 /// The line between the lifelines and the columns.
 fn border_of(place: Place<'_>) -> Shape<'static> {
-    let (x, y) = (place.border_x(), place.bottom());
+    let (x, y) = (place.border_x, place.bottom());
     line("border", Point { x, y: 84 }, Point { x, y })
 }

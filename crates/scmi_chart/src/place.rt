@@ -6,9 +6,7 @@
 //! screen. Sums that would wrap end at the largest number.
 
 use crate::chart::{Chart, Kind, Step};
-use crate::needs::{
-    Bounds, Group, beyond_of, bounds_of, gap_of, group_of, order_of, script_of, side_of,
-};
+use crate::needs::{Group, bounds_of, gap_of, group_of, order_of, script_of, side_of};
 use crate::shape::Point;
 
 /// The most agents of a chart.
@@ -36,8 +34,6 @@ const ASIDE: u32 = 9;
 pub(crate) struct Place<'a> {
     steps: &'a [Step],
     slots: u16,
-    agents: u8,
-    bounds: Bounds,
     /// How many agents are to the left of the platform.
     left_agents: u32,
     /// The platform's lifeline.
@@ -46,8 +42,14 @@ pub(crate) struct Place<'a> {
     side: u32,
     /// The distance between the platform and the nearest agent.
     gap: u32,
-    /// The room beside the platform where no agent is.
-    beyond: u32,
+    /// The room for the words between these.
+    pub room: u32,
+    /// The width of the box of an agent's name.
+    pub head: u32,
+    /// The most characters of a line of the script that are shown.
+    pub shown: usize,
+    /// The line between the lifelines and the columns.
+    pub border_x: u32,
     /// The columns, in the order of their kinds.
     groups: [Group; 3],
 }
@@ -56,21 +58,30 @@ impl<'a> Place<'a> {
     pub fn of(chart: &'a Chart) -> Place<'a> {
         let bounds = bounds_of(chart.lifelines.len());
         let side = side_of(&chart.lifelines, bounds);
-        let gap = gap_of(&chart.marks, bounds);
-        let agents = chart.lifelines.len().min(AGENTS) as u8;
-        let left_agents = (u32::from(agents) + 1) / 2;
-        let between = side.saturating_mul(left_agents.saturating_sub(1));
+        let (gap, beyond) = gap_of(&chart.marks, bounds);
+        let agents = chart.lifelines.len().min(AGENTS) as u32;
+        let left_agents = (agents + 1) / 2;
+        let right_agents = agents.saturating_sub(left_agents);
         let left = script_of(&chart.steps, bounds).saturating_add(side / 2);
+        let between = side.saturating_mul(left_agents.saturating_sub(1));
+        let platform_x = left.saturating_add(between).saturating_add(gap);
+        let beyond = if right_agents == 0 {
+            beyond
+        } else {
+            let between = side.saturating_mul(right_agents.saturating_sub(1));
+            gap.saturating_add(between).saturating_add(side / 2)
+        };
         Place {
             steps: &chart.steps,
             slots: chart.slots,
-            agents,
-            bounds,
             left_agents,
-            platform_x: left.saturating_add(between).saturating_add(gap),
+            platform_x,
             side,
             gap,
-            beyond: beyond_of(&chart.marks),
+            room: gap.saturating_sub(MARGIN),
+            head: side.saturating_sub(if agents > 4 { 8 } else { 16 }),
+            shown: bounds.shown,
+            border_x: platform_x.saturating_add(beyond).saturating_add(16),
             groups: [
                 group_of(&chart.columns, 0, bounds),
                 group_of(&chart.columns, 1, bounds),
@@ -149,34 +160,8 @@ impl<'a> Place<'a> {
         self.beside_platform(agent, self.gap.saturating_sub(distance))
     }
 
-    /// The room for these words.
-    pub fn room(self) -> u32 {
-        self.gap.saturating_sub(MARGIN)
-    }
-
-    /// The width of the box of an agent's name.
-    pub fn head(self) -> u32 {
-        self.side
-            .saturating_sub(if self.agents > 4 { 8 } else { 16 })
-    }
-
-    /// The most characters of a line of the script that are shown.
-    pub fn shown(self) -> usize {
-        self.bounds.shown
-    }
-
-    /// The line between the lifelines and the columns.
-    pub fn border_x(self) -> u32 {
-        let (last, room) = if self.is_left(self.agents) {
-            (self.platform_x, self.beyond)
-        } else {
-            (self.agent_x(self.agents), self.side / 2)
-        };
-        last.saturating_add(room).saturating_add(16)
-    }
-
     pub fn column_x(self, place: u8) -> u32 {
-        let (mut x, mut left) = (self.border_x().saturating_add(30), place);
+        let (mut x, mut left) = (self.border_x.saturating_add(30), place);
         for group in &self.groups {
             let count = left.min(group.count);
             x = x.saturating_add(group.width.saturating_mul(u32::from(count)));

@@ -2,7 +2,6 @@
 
 use crate::fields::add_fields;
 use crate::label::{name_label, name_of, plain_label};
-use crate::label_texts::{COMPLETED, FAILED};
 use crate::mark::Label;
 use crate::reply_label::status_words;
 use crate::value::{Value, filled_words};
@@ -35,13 +34,13 @@ fn delayed_label(alloc: Global, message: &Message) -> Result<Label, AllocError> 
     let name = name_of(alloc, message.header.protocol(), message.header.id())?;
     match message.payload.as_slice() {
         [status, ..] if *status != 0 => {
-            let failed = filled_words(alloc, FAILED, &[Value::Words(&name)])?;
+            let failed = filled_words(alloc, "% failed", &[Value::Words(&name)])?;
             let mut label = name_label(alloc, failed);
             label.object = status_words(alloc, *status)?;
             Ok(label)
         }
         _ => {
-            let completed = filled_words(alloc, COMPLETED, &[Value::Words(&name)])?;
+            let completed = filled_words(alloc, "% completed", &[Value::Words(&name)])?;
             Ok(name_label(alloc, completed))
         }
     }

@@ -2,7 +2,6 @@
 
 use crate::fields::add_fields;
 use crate::label::{name_label, plain_label};
-use crate::label_texts::{CHANNEL_ERROR, NO_STATUS, PENDING, PROTOCOLS, RATES, RELEASED, TRIPLET};
 use crate::mark::{Label, Outcome};
 use crate::value::{Value, filled_words};
 use crate::words::{hex_words, payload_words};
@@ -20,8 +19,8 @@ pub(crate) fn answer_label(
 ) -> Result<Label, AllocError> {
     match answer {
         Answer::Reply(message) => reply_label(alloc, board, message, outcome),
-        Answer::Released => plain_label(alloc, RELEASED),
-        Answer::ChannelError => plain_label(alloc, CHANNEL_ERROR),
+        Answer::Released => plain_label(alloc, "released, no reply"),
+        Answer::ChannelError => plain_label(alloc, "channel error"),
     }
 }
 
@@ -33,7 +32,7 @@ fn reply_label(
     outcome: Outcome,
 ) -> Result<Label, AllocError> {
     let [word, words @ ..] = message.payload.as_slice() else {
-        return plain_label(alloc, NO_STATUS);
+        return plain_label(alloc, "no status");
     };
     let mut label = name_label(alloc, status_words(alloc, *word)?);
     add_reply(alloc, board, &mut label, &message.header, words)?;
@@ -63,7 +62,7 @@ fn add_reply(
 fn add_outcome(alloc: Global, label: &mut Label, outcome: Outcome) -> Result<(), AllocError> {
     match outcome {
         Outcome::Pending => {
-            label.tag = Vec::from_slice(alloc, PENDING.as_bytes())?;
+            label.tag = Vec::from_slice(alloc, b"accepted, takes effect at an advance")?;
         }
         Outcome::Success | Outcome::Refusal => {}
     }
@@ -94,11 +93,11 @@ fn add_list(
 /// How many rates or protocols a list has, by its first word.
 fn list_words(alloc: Global, protocol: u8, word: u32) -> Result<Vec<u8>, AllocError> {
     if protocol != CLOCK_PROTOCOL {
-        return filled_words(alloc, PROTOCOLS, &[Value::Number(word)]);
+        return filled_words(alloc, "% protocols", &[Value::Number(word)]);
     }
     if word / 4096 % 2 == 1 {
-        return Vec::from_slice(alloc, TRIPLET.as_bytes());
+        return Vec::from_slice(alloc, b"lowest, highest, step");
     }
     let counts = [Value::Number(word % 4096), Value::Number(word >> 16)];
-    filled_words(alloc, RATES, &counts)
+    filled_words(alloc, "% rates, % left", &counts)
 }

@@ -4,7 +4,6 @@ ghost use Rattle.scmi_chart.specs.Signs.{reported_signs};
 ghost use Rattle.scmi_chart.specs.Shown.{adds};
 
 use crate::board_names::{clock_name, domain_name};
-use crate::label_texts::{CHANGED, ENDS_FIRST, SET, SET_OF, SETTLES};
 use crate::mark::{Mark, Side};
 use crate::recorder::Recorder;
 use crate::value::{Value, filled_words};
@@ -62,16 +61,24 @@ fn report_words(
         Report::Changed(effect) => {
             let name = changed_name(alloc, board, effect)?;
             let value = value_words(alloc, effect)?;
-            filled_words(alloc, CHANGED, &[Value::Words(&name), Value::Words(&value)])
+            filled_words(
+                alloc,
+                "reported: % is %",
+                &[Value::Words(&name), Value::Words(&value)],
+            )
         }
         Report::First(place) => {
             let set = first_set(alloc, board, place, core)?;
-            filled_words(alloc, ENDS_FIRST, &[Value::Words(&set)])
+            filled_words(alloc, "reported: % ends first", &[Value::Words(&set)])
         }
         Report::Settled { clock, rate } => {
             let name = clock_name(alloc, board, clock)?;
             let rate = rate_words(alloc, rate)?;
-            filled_words(alloc, SETTLES, &[Value::Words(&name), Value::Words(&rate)])
+            filled_words(
+                alloc,
+                "reported: % settles at %",
+                &[Value::Words(&name), Value::Words(&rate)],
+            )
         }
     }
 }
@@ -108,8 +115,8 @@ fn first_set(
     match core.pending_sets() {
         [set, ..] => {
             let name = changed_name(alloc, board, set.effect())?;
-            filled_words(alloc, SET_OF, &[Value::Words(&name)])
+            filled_words(alloc, "the set of %", &[Value::Words(&name)])
         }
-        [] => numbered_words(alloc, SET, place),
+        [] => numbered_words(alloc, "set %", place),
     }
 }

@@ -14,6 +14,7 @@ ghost use Rattle.scmi_chart.specs.Run.{ShowsRun, ShowsScript, StandsFor};
 use crate::chart::Chart;
 use crate::record_step::record_step;
 use crate::recorder::Recorder;
+use crate::value::{Value, filled_words};
 use scmi_board::{BoardWithLines, END, Lines, TextError, TextLine};
 use scmi_link::{Channel, RingChannel};
 use scmi_modes::{
@@ -147,18 +148,21 @@ fn subtitle_of(
     steps: usize,
     events: usize,
 ) -> Result<Vec<u8>, AllocError> {
-    let text = format!(in alloc;
-        "{mode}, {steps} step{}, a history of {events} event{}",
-        plural(steps),
-        plural(events)
-    )?;
-    Ok(text.into_bytes())
+    let values = [
+        Value::Words(mode.as_bytes()),
+        Value::Count(steps),
+        Value::Words(plural(steps)),
+        Value::Count(events),
+        Value::Words(plural(events)),
+    ];
+    filled_words(alloc, "%, % step%, a history of % event%", &values)
 }
 
 /// The title of a chart of a platform of this board: its vendor and its sub-vendor.
 pub fn title_of(alloc: Global, board: &RawPlan) -> Result<Vec<u8>, AllocError> {
-    let title = format!(in alloc; "{} {}", board.vendor, board.sub_vendor)?;
-    Ok(title.into_bytes())
+    let vendor = Value::Words(board.vendor.as_bytes());
+    let sub_vendor = Value::Words(board.sub_vendor.as_bytes());
+    filled_words(alloc, "% %", &[vendor, sub_vendor])
 }
 
 /// The next line of the script.
@@ -173,6 +177,6 @@ fn next_text<'a>(lines: &mut Lines<'a>) -> TextLine<'a> {
 }
 
 /// What follows a noun of which there are this many.
-pub(crate) fn plural(count: usize) -> &'static str {
-    if count == 1 { "" } else { "s" }
+pub(crate) fn plural(count: usize) -> &'static [u8] {
+    if count == 1 { b"" } else { b"s" }
 }

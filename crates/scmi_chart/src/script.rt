@@ -44,10 +44,10 @@ fn shade_of(place: Place<'_>, step: &Step) -> Shape<'static> {
 /// The line of the script after its number.
 fn line_of<'a>(place: Place<'_>, step: &'a Step) -> Shape<'a> {
     let y = Value::Number(place.slot_y(step.slot).saturating_add(20));
-    let (text, sign): (&[u8], &[u8]) = if step.text.len() <= place.shown() {
+    let (text, sign): (&[u8], &[u8]) = if step.text.len() <= place.shown {
         (&step.text, b"")
     } else {
-        let room = place.shown().saturating_sub(SIGN);
+        let room = place.shown.saturating_sub(SIGN);
         (beginning_of(&step.text, room), b" &#8230;")
     };
     let (text, sign) = (Value::Outside(text), Value::Words(sign));

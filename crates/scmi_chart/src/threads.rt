@@ -13,6 +13,7 @@ use crate::history::steps_of_run;
 use crate::record_step::record_step;
 use crate::recorder::Recorder;
 use crate::run::{STEPS, plural, title_of};
+use crate::value::{Value, filled_words};
 use scmi_board::{Lines, TextLine, read_board};
 use scmi_link::{Channel, RingChannel};
 use scmi_modes::{Kind, RunError, Session, THREADS_RINGS, THREADS_WORDS};
@@ -104,12 +105,14 @@ fn subtitle_of(alloc: Global, kind: Kind, events: usize) -> Result<Vec<u8>, Allo
         Kind::Rings => THREADS_RINGS,
         Kind::Words => THREADS_WORDS,
     };
-    let them = if events == 1 { "it" } else { "them" };
-    let text = format!(in alloc;
-        "{mode}, {events} event{}, as the platform executed {them}",
-        plural(events)
-    )?;
-    Ok(text.into_bytes())
+    let them: &[u8] = if events == 1 { b"it" } else { b"them" };
+    let values = [
+        Value::Words(mode.as_bytes()),
+        Value::Count(events),
+        Value::Words(plural(events)),
+        Value::Words(them),
+    ];
+    filled_words(alloc, "%, % event%, as the platform executed %", &values)
 }
 
 /// Makes steps one by one on one thread, and records each.

@@ -6,8 +6,8 @@ ghost use Rattle.scmi_chart.specs.Value.{value_text};
 ghost use Rattle.scmi_chart.specs.Words.{hex_text};
 
 use crate::escape::write_escaped;
-use crate::label_texts::HEX;
 use crate::rate::write_rate;
+use crate::words::HEX;
 use scmi_io::{Piece, write_filled};
 use std::alloc::{AllocError, Global};
 use std::io;

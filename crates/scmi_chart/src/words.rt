@@ -2,15 +2,19 @@
 ghost use Rattle.std.specs.Prelude.{◌≡◌, ◌++◌, IfOk, OnOk};
 ghost use Rattle.scmi_chart.specs.Words.{hex_text, spaced_text, words_text};
 
-use crate::label_texts::{DISABLED, ENABLED, HEX, MORE, OFF, ON, SPACE, VALUE};
 use crate::value::{Value, filled_words};
 use std::alloc::{AllocError, Global};
+
+/// What is before the digits of a hexadecimal number.
+pub(crate) const HEX: &str = "0x";
+/// What is between words of a payload.
+const SPACE: u8 = b' ';
 
 /// A power state.
 pub(crate) fn state_words(alloc: Global, state: u32) -> Result<Vec<u8>, AllocError> {
     match state {
-        0 => Vec::from_slice(alloc, ON.as_bytes()),
-        0x4000_0000 => Vec::from_slice(alloc, OFF.as_bytes()),
+        0 => Vec::from_slice(alloc, b"ON"),
+        0x4000_0000 => Vec::from_slice(alloc, b"OFF"),
         _ => hex_words(alloc, state),
     }
 }
@@ -37,11 +41,11 @@ pub(crate) fn numbered_words(
 
 /// A rate, as columns have it.
 pub(crate) fn rate_words(alloc: Global, hertz: u64) -> Result<Vec<u8>, AllocError> {
-    filled_words(alloc, VALUE, &[Value::Rate(hertz)])
+    filled_words(alloc, "%", &[Value::Rate(hertz)])
 }
 
 /// The most payload words that are shown beside an arrow.
-pub const SHOWN_WORDS: usize = 4;
+const SHOWN_WORDS: usize = 4;
 
 /// The first payload words, hexadecimal, and how many follow them.
 pub(crate) fn payload_words(alloc: Global, words: &[u32]) -> Result<Vec<u8>, AllocError> {
@@ -49,7 +53,7 @@ pub(crate) fn payload_words(alloc: Global, words: &[u32]) -> Result<Vec<u8>, All
     let mut text = all_words(alloc, shown)?;
     if words.len() > SHOWN_WORDS {
         let hidden = Value::Count(words.len() - SHOWN_WORDS);
-        text.extend_from_slice(&filled_words(alloc, MORE, &[hidden])?)?;
+        text.extend_from_slice(&filled_words(alloc, " and % more", &[hidden])?)?;
     }
     Ok(text)
 }
@@ -99,5 +103,5 @@ fn add_letters(text: &mut Vec<u8>, word: u32) -> Result<(), AllocError> {
 
 /// Whether bit 0 is set, in words.
 pub(crate) fn switch_word(bits: u32) -> &'static str {
-    if bits % 2 == 1 { ENABLED } else { DISABLED }
+    if bits % 2 == 1 { "on" } else { "off" }
 }
