@@ -6,8 +6,6 @@
 //! A diagram has a line for each. No text is read as a part of a picture; how it looks is tested.
 #![tactic(auto)]
 
-mod advance_marks;
-mod answer_marks;
 mod arrows;
 mod asked;
 mod board_names;
@@ -15,7 +13,6 @@ mod chart;
 mod close_marks;
 mod column;
 mod command_marks;
-mod delivery_marks;
 mod detail;
 mod diagram;
 mod diagram_value;
@@ -25,7 +22,6 @@ mod drawn_marks;
 mod escape;
 mod event;
 mod exchange_marks;
-mod execution_marks;
 mod fields;
 mod flags;
 mod history;
@@ -43,12 +39,12 @@ mod needs;
 mod parties;
 mod picture;
 mod place;
+mod platform_marks;
 mod posted_label;
 mod posts;
 mod rate;
 mod record_step;
 mod recorder;
-mod remark_marks;
 mod reply_label;
 mod report_marks;
 mod run;
