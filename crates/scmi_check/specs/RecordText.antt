@@ -278,6 +278,10 @@ with_line agents shows line = do
   shown ← shown_at agents line.text
   with_shown shows line.number shown
 
+-- the record of what lines show
+abbrev pub record_shown : Shows → RecordView
+record_shown shows = record { entries = shows.entries; left = shows.left }
+
 -- the record once no line is left: the commands that wait have no answer
 abbrev pub finished : Shows → RecordView
 finished shows =

@@ -1,5 +1,5 @@
 //! The texts of a board and of a record, and what is found of them.
-ghost use Rattle.std.specs.Prelude.{◌≡◌, ℕ, ◌+◌, [], List, length, IfOk, IfErr, IfSome};
+ghost use Rattle.std.specs.Prelude.{◌≡◌, ℕ, ◌+◌, [], List, length, OnOk, IfOk, IfErr, IfSome};
 ghost use Rattle.scmi_plan.specs.Board.{Board};
 ghost use Rattle.scmi_judge.specs.Judging.{Knows};
 ghost use Rattle.scmi_judge.specs.declared.unseen.Unseen.{Unseen as Hidden};
@@ -130,6 +130,22 @@ fn judge_of(alloc: Global, text: &[u8], plan: &Plan, unseen: Unseen) -> Result<J
     let first = again(alloc, text, plan)?;
     let place = again(alloc, text, plan)?;
     let mut judge = Judge::new(alloc, first, place, unseen)?;
+    add_places(alloc, text, plan, &mut judge)?;
+    Ok(judge)
+}
+
+/// Makes the places of a judge of this board. `Memory` is the only error.
+fn add_places(alloc: Global, text: &[u8], plan: &Plan, judge: &mut Judge) -> Result<(), CoreError>
+    requires text { IsPlanText text.now plan.now }
+    requires board { judge.old.board ≡ plan.now }
+    requires knows { Knows judge.old [] }
+    requires place { length judge.old.guesses + length judge.old.spare ≡ 1 }
+    ensures knows { OnOk result (Knows judge.new []) }
+    ensures board { OnOk result (judge.new.board ≡ plan.now) }
+    ensures unseen { OnOk result (judge.new.unseen ≡ judge.old.unseen) }
+    ensures places { OnOk result (length judge.new.guesses + length judge.new.spare ≡ 1 + PLACES) }
+    ensures errors { IfErr result (λ e. e ≡ CoreError.Memory) }
+{
     'places: for _place in 0..PLACES {
         judge.add_place(again(alloc, text, plan)?)?;
     }
@@ -138,7 +154,7 @@ fn judge_of(alloc: Global, text: &[u8], plan: &Plan, unseen: Unseen) -> Result<J
         let between = again(alloc, text, plan)?;
         judge.add_look_back(before, between)?;
     }
-    Ok(judge)
+    Ok(())
 }
 
 /// The plan of a board with this text again. `Memory` is the only error.

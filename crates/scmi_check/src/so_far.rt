@@ -1,10 +1,10 @@
 //! What the lines of a record show so far.
-ghost use Rattle.std.specs.Prelude.{◌≡◌, ◌<◌, IfErr, IfOk, Ok, Some};
+ghost use Rattle.std.specs.Prelude.{◌≡◌, ◌<◌, IfErr, IfOk, Ok, OnOk, Some};
 ghost use Rattle.scmi_codec.specs.declared.header.TheConstants.{TOKENS};
 ghost use Rattle.scmi_board.specs.LineError.{Gives, GivesUnless};
 ghost use Rattle.scmi_board.specs.TextError.{IsOfScript};
 ghost use Rattle.scmi_text.specs.TextLines.{GivesScript};
-ghost use Rattle.scmi_check.specs.RecordText.{all_given_up, given_up, entry_protocol, finished, nothing_shown, record_view, ready, shows_of, told, token_free, token_taken, with_answer, with_answered, with_asking, with_called, with_entry, with_lost, with_posted, with_response, with_shown, with_traced, with_unmatched};
+ghost use Rattle.scmi_check.specs.RecordText.{all_given_up, given_up, entry_protocol, finished, nothing_shown, record_shown, record_view, ready, shows_of, told, token_free, token_taken, with_answer, with_answered, with_asking, with_called, with_entry, with_lost, with_posted, with_response, with_shown, with_traced, with_unmatched};
 
 use crate::asking::Asking;
 use crate::left_out::{LeftOut, frame_protocol, is_judged};
@@ -17,7 +17,7 @@ use scmi_codec::{Answer, Frame, Header, Message, TOKENS};
 use scmi_judge::Entry;
 use scmi_plan::AGENTS;
 use scmi_text::Call;
-use std::alloc::Global;
+use std::alloc::{AllocError, Global};
 
 /// What the lines of a record show so far. After an error it is of no use.
 #[derive(Drop)]
@@ -93,27 +93,32 @@ impl<'a> SoFar<'a> {
     }
 
     /// The record, once no line is left. `Memory` if out of memory.
-    pub fn finish(self) -> Result<Record, TextError>
+    pub fn finish(mut self) -> Result<Record, TextError>
         ensures errors { IfErr result IsOfScript }
         ensures record { GivesScript record_view result (Ok (finished (shows_of self.entry))) }
     {
+        if self.note_unanswered().is_err() {
+            return Err(TextError::Memory);
+        }
         let SoFar {
             asking,
-            mut left,
-            judged,
-            waiting,
-            traced,
+            left,
+            judged: _,
+            waiting: _,
+            traced: _,
             early: _,
             tokens: _,
         } = self;
-        if left.add_unanswered(judged, &waiting).is_err() {
-            return Err(TextError::Memory);
-        }
-        if left.add_unanswered(judged, &traced).is_err() {
-            return Err(TextError::Memory);
-        }
         let Asking { entries, asked: _ } = asking;
         Ok(Record { entries, left })
+    }
+
+    /// The commands that wait have no answer.
+    fn note_unanswered(&mut self) -> Result<(), AllocError>
+        ensures { OnOk result (record_shown (shows_of self.new) ≡ finished (shows_of self.old)) }
+    {
+        self.left.add_unanswered(self.judged, &self.waiting)?;
+        self.left.add_unanswered(self.judged, &self.traced)
     }
 
     /// A command with the next token of its agent.

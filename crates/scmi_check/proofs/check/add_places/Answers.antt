@@ -1,5 +1,5 @@
 use Rattle.std.proofs.Common.{◌∙◌, [], arith}
-use Rattle.scmi_check.proofs.check.judge_of.Goals as goal
+use Rattle.scmi_check.proofs.check.add_places.Goals as goal
 
 pub places-preserved : goal.places-preserved
 places-preserved c =
