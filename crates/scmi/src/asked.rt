@@ -160,16 +160,11 @@ fn number_by<'a>(
 ) -> Result<Option<usize>, Unread<'a>> {
     match matches.get_str(option) {
         None => Ok(None),
-        Some(word) => match count_of(word) {
-            Some(count) => Ok(Some(count)),
+        Some(word) => match number(word.as_bytes()) {
+            Some(count) => Ok(Some(count as usize)),
             None => Err(Unread::Number(option, word)),
         },
     }
-}
-
-/// The count that a word is.
-fn count_of(word: &str) -> Option<usize> {
-    usize::try_from(number(word.as_bytes())?).ok()
 }
 
 /// A request that names no file.

@@ -5,6 +5,7 @@ ghost use Rattle.scmi.specs.Record.{AreNamesOf};
 
 use scmi_board::{BoardWithLines, ValidBoard, read_valid_board};
 use scmi_check::{CheckError, Names};
+use scmi_explain::split_first;
 use scmi_live::line_in_numbers;
 use scmi_plan::RawPlan;
 use std::alloc::{AllocError, Global};
@@ -31,6 +32,30 @@ impl BoardNames {
             // A board of 2^32 agents.
             Err(_) => Err(CheckError::Memory),
         }
+    }
+
+    /// The lines of a record up to that of this number, with numbers in place of names.
+    pub(crate) fn in_numbers(
+        &self,
+        alloc: Global,
+        record: &[u8],
+        line: u32,
+    ) -> Result<Vec<u8>, AllocError> {
+        let mut made = Vec::new(alloc);
+        let mut rest = record;
+        for _ in 0..line {
+            let (text, behind) = split_first(rest);
+            match self.line(alloc, text)? {
+                Some(given) => made.extend_from_slice(given.as_bytes())?,
+                None => made.extend_from_slice(text)?,
+            }
+            if behind.is_empty() {
+                break;
+            }
+            made.push(b'\n')?;
+            rest = behind;
+        }
+        Ok(made)
     }
 }
 

@@ -3,7 +3,7 @@
 use crate::board_names::BoardNames;
 use scmi_board::{Lines, TextLine, read_valid_board};
 use scmi_chart::{Chart, Recorder, STEPS, title_of};
-use scmi_check::{CheckError, Names, PROTOCOLS, Placed, Record, read_record};
+use scmi_check::{CheckError, PROTOCOLS, Placed, Record, read_record};
 use scmi_codec::{Answer, Frame, Header, Message, payload_of};
 use scmi_core::Core;
 use scmi_judge::Entry;
@@ -57,25 +57,12 @@ pub(crate) fn picture_of(alloc: Global, board: &[u8], text: &[u8]) -> Result<Cha
 
 /// The record of a text.
 fn read_with_names(alloc: Global, names: &BoardNames, text: &[u8]) -> Result<Record, NotDrawn> {
-    let numbered = with_numbers(alloc, names, text)?;
+    let numbered = names.in_numbers(alloc, text, u32::MAX)?;
     let mut lines = Lines::of_text(&numbered);
     match read_record(alloc, &mut lines, names.agents, &PROTOCOLS) {
         Ok(record) => Ok(record),
         Err(error) => Err(NotDrawn::Refused(CheckError::from(error))),
     }
-}
-
-/// The text of a record with numbers in place of names.
-fn with_numbers(alloc: Global, names: &BoardNames, text: &[u8]) -> Result<Vec<u8>, AllocError> {
-    let mut numbered = Vec::new(alloc);
-    for line in text.split(|byte| *byte == b'\n') {
-        match names.line(alloc, line)? {
-            Some(given) => numbered.extend_from_slice(given.as_bytes())?,
-            None => numbered.extend_from_slice(line)?,
-        }
-        numbered.push(b'\n')?;
-    }
-    Ok(numbered)
 }
 
 /// The chart of a record, with the lines of its text.
@@ -109,13 +96,18 @@ fn text_at<'a>(lines: &[&'a [u8]], number: u32) -> TextLine<'a> {
     TextLine { number, text }
 }
 
+/// How many of these entries are drawn as answers or messages.
+fn drawn_of(entries: &[Placed]) -> usize {
+    let mut drawn = 0usize;
+    for placed in entries {
+        drawn = drawn.saturating_add(placed.entry.is_from_platform() as usize);
+    }
+    drawn
+}
+
 /// What is drawn of a record and what is not, in a line.
 fn subtitle_of(alloc: Global, record: &Record) -> Result<Vec<u8>, AllocError> {
-    let drawn = record
-        .entries
-        .iter()
-        .filter(|placed| placed.entry.is_from_platform())
-        .count();
+    let drawn = drawn_of(&record.entries);
     let ending = if drawn == 1 { "y" } else { "ies" };
     let noted = record.left.notes.len();
     let skipped = record.left.skipped;
@@ -137,14 +129,24 @@ fn has_answer(entries: &[Placed], first: usize, entry: &Entry) -> bool {
         return true;
     };
     let asked = *place;
-    for placed in entries.iter().skip(first) {
-        match &placed.entry {
-            Entry::Replied { place, .. } if *place == asked => return true,
-            Entry::GivenUp { place } if *place == asked => return false,
-            _ => {}
+    let (_, behind) = entries.split_at(first.min(entries.len()));
+    for placed in behind {
+        if let Some((place, is_answer)) = freed_by(&placed.entry)
+            && place == asked
+        {
+            return is_answer;
         }
     }
     false
+}
+
+/// The place that an entry frees, and whether that has its answer.
+fn freed_by(entry: &Entry) -> Option<(u32, bool)> {
+    match entry {
+        Entry::Replied { place, .. } => Some((*place, true)),
+        Entry::GivenUp { place } => Some((*place, false)),
+        _ => None,
+    }
 }
 
 /// Draws an entry, whose answer or message is in this line, or whose command, if that is answered

@@ -1,6 +1,7 @@
 //! Why a line of a record is refused, found by what the lines before it and the line alone encode.
 
 use crate::refusal::BOARD_START;
+use crate::unknown_text::text_or;
 use scmi_board::{Lines, number};
 use scmi_check::{Note, NoteKind, read_record};
 use scmi_explain::{MODES, split_first};
@@ -51,7 +52,7 @@ fn has_line(text: &[u8], line: u32) -> bool {
 }
 
 /// How many line feeds a text has.
-fn feeds_in(text: &[u8]) -> usize {
+pub(crate) fn feeds_in(text: &[u8]) -> usize {
     let mut feeds = 0usize;
     for byte in text {
         if *byte == b'\n' {
@@ -67,22 +68,28 @@ fn cause_in(alloc: Global, agents: u32, record: &[u8], line: u32) -> Option<Reco
     if text.starts_with(BOARD_START) {
         return Some(RecordCause::Board);
     }
-    if matches!(from_utf8(text), Ok(mode) if MODES.contains(&mode)) {
+    if MODES.contains(&text_or(text, "")) {
         return Some(RecordCause::Script);
     }
-    let Some(agent) = agent_of(text) else {
-        return if is_event(text) {
-            Some(RecordCause::Event)
-        } else {
-            None
-        };
-    };
-    if agent == 0 || agent > u64::from(agents) {
-        return Some(RecordCause::Agent { agent, agents });
+    match agent_of(text) {
+        Some(agent) if agent == 0 || agent > agents as u64 => {
+            Some(RecordCause::Agent { agent, agents })
+        }
+        _ if is_event(text) => Some(RecordCause::Event),
+        Some(agent) => cause_at(alloc, agents, before, record, text, agent),
+        None => None,
     }
-    if is_event(text) {
-        return Some(RecordCause::Event);
-    }
+}
+
+/// The same of a line of an agent of the board, and what is before it.
+fn cause_at(
+    alloc: Global,
+    agents: u32,
+    before: &[u8],
+    record: &[u8],
+    text: &[u8],
+    agent: u64,
+) -> Option<RecordCause> {
     if is_read(alloc, agents, text) {
         let command = waiting_line(alloc, agents, before, record, agent)?;
         return Some(RecordCause::Waits { agent, command });
@@ -101,12 +108,12 @@ pub(crate) fn line_of(record: &[u8], line: u32) -> &[u8] {
 
 /// Whether a line begins as one that posts.
 pub(crate) fn is_post(text: &[u8]) -> bool {
-    POSTS.contains(&split_item(text).0)
+    POSTS.contains(&split_item(text, b' ').0)
 }
 
-/// What is before the first space of a line, and what is behind it.
-fn split_item(text: &[u8]) -> (&[u8], &[u8]) {
-    match text.iter().position(|byte| *byte == b' ') {
+/// What is before the first separator of a text, and what is behind it.
+pub(crate) fn split_item(text: &[u8], separator: u8) -> (&[u8], &[u8]) {
+    match text.iter().position(|byte| *byte == separator) {
         Some(place) => (&text[..place], &text[place + 1..]),
         None => (text, &[]),
     }
@@ -124,11 +131,11 @@ fn parted(text: &[u8], line: u32) -> (&[u8], &[u8]) {
 
 /// The number of the agent that a line names, if it is one.
 fn agent_of(text: &[u8]) -> Option<u64> {
-    let (first, behind) = split_item(text);
+    let (first, behind) = split_item(text, b' ');
     if is_event(text) {
         instance_of(text)
     } else if is_post(text) {
-        number(split_item(behind).0)
+        number(split_item(behind, b' ').0)
     } else {
         number(first)
     }
@@ -138,7 +145,7 @@ fn agent_of(text: &[u8]) -> Option<u64> {
 fn instance_of(text: &[u8]) -> Option<u64> {
     let mut rest = text;
     for _ in 0..text.len() {
-        let (item, behind) = split_item(rest);
+        let (item, behind) = split_item(rest, b' ');
         if let Some(instance) = item.strip_prefix(INSTANCE) {
             return number(instance)?.checked_add(1);
         }
@@ -151,7 +158,7 @@ fn instance_of(text: &[u8]) -> Option<u64> {
 fn is_event(text: &[u8]) -> bool {
     let mut rest = text;
     for _ in 0..text.len() {
-        let (item, behind) = split_item(rest);
+        let (item, behind) = split_item(rest, b' ');
         if item == EVENT {
             return true;
         }

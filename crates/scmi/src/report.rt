@@ -25,7 +25,7 @@ pub fn report_input<R: Read + Drop>(
     if fault == Fault::Area && matches!(request, Request::Bytes(_)) {
         return report_bytes(rt, name, input.bytes());
     }
-    if request == Request::Do(Task::Table) {
+    if matches!(request, Request::Do(Task::Table)) {
         return report_board(rt, alloc, name, input.bytes(), fault, input.error(), "");
     }
     let hertz = script_in_hertz(alloc, input.bytes());
@@ -74,8 +74,12 @@ fn report_bytes(rt: &impl Eprint, name: &str, bytes: &[u8]) {
 
 /// Whether bytes are some text, as dumps are.
 fn is_text(bytes: &[u8]) -> bool {
+    for byte in bytes {
+        if !matches!(*byte, b' '..=b'~' | b'\n' | b'\r' | b'\t') {
+            return false;
+        }
+    }
     !bytes.is_empty()
-        && bytes.iter().all(|byte| matches!(*byte, b' '..=b'~' | b'\n' | b'\r' | b'\t'))
 }
 
 /// Why a run failed, by its last line. A decode that failed after its last dump found no area, and

@@ -3,10 +3,8 @@
 use crate::board_names::BoardNames;
 use crate::record_cause::{RecordCause, is_post, line_of, record_cause};
 use crate::report_unknown::report_names;
-use scmi_check::Names;
-use scmi_explain::split_first;
 use scmi_live::in_hertz;
-use std::alloc::{AllocError, Global};
+use std::alloc::Global;
 use std::io::Eprint;
 
 /// Reports why the line of this number of the record of this name is refused, if the board has this
@@ -22,7 +20,7 @@ pub fn report_record(
     let Some(names) = names_of(alloc, board) else {
         return report_cause(rt, name, line, RecordCause::Form);
     };
-    let cause = match in_numbers(alloc, &names, record, line) {
+    let cause = match names.in_numbers(alloc, record, line) {
         Ok(given) => record_cause(alloc, names.agents, &given, line),
         Err(_) => RecordCause::Form,
     };
@@ -38,30 +36,6 @@ pub fn report_record(
 fn names_of(alloc: Global, text: &[u8]) -> Option<BoardNames> {
     let hertz = in_hertz(alloc, text).ok()?;
     BoardNames::of_text(alloc, &hertz).ok()
-}
-
-/// The lines of a record up to that of this number, with numbers in place of names.
-fn in_numbers(
-    alloc: Global,
-    names: &BoardNames,
-    record: &[u8],
-    line: u32,
-) -> Result<Vec<u8>, AllocError> {
-    let mut made = Vec::new(alloc);
-    let mut rest = record;
-    for _ in 0..line {
-        let (text, behind) = split_first(rest);
-        match names.line(alloc, text)? {
-            Some(given) => made.extend_from_slice(given.as_bytes())?,
-            None => made.extend_from_slice(text)?,
-        }
-        if behind.is_empty() {
-            break;
-        }
-        made.push(b'\n')?;
-        rest = behind;
-    }
-    Ok(made)
 }
 
 /// Reports why a line of a record is refused.

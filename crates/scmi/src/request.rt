@@ -3,7 +3,7 @@
 use scmi_decode::Layout;
 
 /// What the program does, by the word that asks for it.
-#[derive(Clone, Copy, Debug, PartialEq, Eq)]
+#[derive(Clone, Copy)]
 pub enum Task {
     /// Runs a session.
     Run,
@@ -24,7 +24,7 @@ pub enum Task {
 }
 
 /// What the program is asked for, but for its files.
-#[derive(Clone, Copy, Debug, PartialEq, Eq)]
+#[derive(Clone, Copy)]
 pub enum Request {
     /// To do this.
     Do(Task),

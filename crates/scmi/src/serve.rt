@@ -51,7 +51,7 @@ pub fn serve<T: Threads + Wait + Sync + Files + Print + Eprint + Input>(
         };
     }
     match fs::open(rt, name) {
-        Ok(file) if asked.request == Request::Do(Task::Session) => {
+        Ok(file) if matches!(asked.request, Request::Do(Task::Session)) => {
             let asked = AskedSession {
                 board: name,
                 save: asked.save,
@@ -67,7 +67,7 @@ pub fn serve<T: Threads + Wait + Sync + Files + Print + Eprint + Input>(
 /// What is asked for of a board and a record, if it is a check or a picture of the record.
 fn check_asked<'a>(asked: Asked<'a>, board: &'a str, terminal: Terminal) -> Option<AskedCheck<'a>> {
     let picture = picture_asked(asked);
-    if picture.is_none() && asked.request != Request::Do(Task::Check) {
+    if picture.is_none() && !matches!(asked.request, Request::Do(Task::Check)) {
         return None;
     }
     Some(AskedCheck {
@@ -104,7 +104,10 @@ fn reads_standard(asked: Asked<'_>) -> bool {
 
 /// Whether an input is standard input, by the name of its file.
 fn is_standard(name: Option<&str>) -> bool {
-    name.unwrap_or(STANDARD) == STANDARD
+    match name {
+        Some(name) => name == STANDARD,
+        None => true,
+    }
 }
 
 /// Whether a request asks for a text of the program's own, in which no word shows a fault.
@@ -225,8 +228,5 @@ pub(crate) fn write_whole<T: Print + Eprint>(rt: &T, whole: &[u8]) -> u8 {
 
 /// A line without its line feed.
 pub(crate) fn without_feed(line: &[u8]) -> &[u8] {
-    match line {
-        [text @ .., b'\n'] => text,
-        _ => line,
-    }
+    line.strip_suffix(b"\n").unwrap_or(line)
 }

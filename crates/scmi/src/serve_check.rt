@@ -7,17 +7,18 @@ use crate::listed::Listed;
 use crate::painted::Painted;
 use crate::picture::{NotDrawn, picture_of};
 use crate::record::run_record;
+use crate::record_cause::split_item;
 use crate::refusal::{BOARD_START, WRONG_ARGUMENT, begins_as_board, refuse_file, refuse_standard};
 use crate::report::report_output;
 use crate::report_board::report_board;
 use crate::report_record::report_record;
 use crate::serve::{without_feed, write_whole};
 use crate::watched::Watched;
-use scmi_board::{Items, byte};
+use scmi_board::{byte, word};
 use scmi_chart::{Form, STEPS, write_chart, write_diagram};
 use scmi_check::{CheckError, CheckOptions, DIFFERS, PROTOCOLS, Style, UNSURE, Unseen};
 use scmi_explain::{Fault, Kept, LastLine};
-use scmi_io::{CountedReader, FAILED_OUTPUT, INPUT_BYTES, read_rest, write_fault};
+use scmi_io::{CountedReader, FAILED_OUTPUT, FAULT, INPUT_BYTES, RECORD, read_rest, write_fault};
 use std::alloc::Global;
 use std::fs::{self, Files};
 use std::io::{self, BufWriter, Eprint, Input, Print, Read, Write};
@@ -88,7 +89,10 @@ impl<'a> AskedCheck<'a> {
 
     /// What messages call the record.
     fn record_name(&self) -> &'a str {
-        self.file_of_record().unwrap_or(STANDARD_INPUT)
+        match self.file_of_record() {
+            Some(name) => name,
+            None => STANDARD_INPUT,
+        }
     }
 
     /// The numbers of the protocols that are judged: those of the profile if none are listed, and
@@ -99,8 +103,14 @@ impl<'a> AskedCheck<'a> {
             judged.extend_from_slice(&PROTOCOLS).ok()?;
             return Some(judged);
         };
-        for number in listed.split(',') {
-            judged.push(byte(number.as_bytes())?).ok()?;
+        let mut rest = listed.as_bytes();
+        for _ in 0..usize::MAX {
+            let (number, behind) = split_item(rest, b',');
+            judged.push(byte(number)?).ok()?;
+            if number.len() == rest.len() {
+                break;
+            }
+            rest = behind;
         }
         Some(judged)
     }
@@ -149,36 +159,52 @@ fn check_on<T: Eprint, B: Read + Drop, R: Read + Drop, W: Write + Drop>(
     record: R,
     writer: W,
 ) -> u8 {
-    let Some(judged) = asked.judged(alloc) else {
-        let profile = Listed(&PROTOCOLS);
-        let _ = eprintln!(rt;
-            "scmi: '{}' is not a list of protocols; write numbers below 256 with commas between, \
-            such as {profile}",
-            asked.protocols.unwrap_or("")
-        );
-        return WRONG_ARGUMENT;
-    };
+    match asked.judged(alloc) {
+        Some(judged) => check_judged(rt, alloc, asked, &judged, board, record, writer),
+        None => {
+            let listed = asked.protocols.unwrap_or("");
+            let profile = Listed(&PROTOCOLS);
+            let _ = eprintln!(rt;
+                "scmi: '{listed}' is not a list of protocols; write numbers below 256 with commas \
+                between, such as {profile}"
+            );
+            WRONG_ARGUMENT
+        }
+    }
+}
+
+/// The same if these protocols are judged.
+fn check_judged<T: Eprint, B: Read + Drop, R: Read + Drop, W: Write + Drop>(
+    rt: &T,
+    alloc: Global,
+    asked: AskedCheck<'_>,
+    judged: &[u8],
+    board: B,
+    record: R,
+    writer: W,
+) -> u8 {
     let mut board = Kept::new(alloc, board);
     let record = Watched::new(rt, asked.record_name(), asked.is_watched, record);
     let mut record = Kept::new(alloc, record);
     let mut output = LastLine::new(writer);
     let options = CheckOptions {
-        protocols: &judged,
+        protocols: judged,
         unseen: asked.unseen,
     };
     let style = asked.style;
     let status = run_record(alloc, &mut board, &mut record, options, &mut output, style);
     let status = report_output(rt, &mut output, status);
     if !matches!(status, 0 | DIFFERS | UNSURE | FAILED_OUTPUT) {
-        if asked.file_of_record().is_some() && is_swapped(&board, &mut record) {
-            let _ = eprintln!(rt;
-                "{}: this is a record, and {} a board; scmi check takes BOARD before RECORD",
-                asked.board_name(),
-                asked.record.unwrap_or("")
-            );
-            return status;
+        match asked.file_of_record() {
+            Some(name) if is_swapped(&board, &mut record) => {
+                let board_name = asked.board_name();
+                let _ = eprintln!(rt;
+                    "{board_name}: this is a record, and {name} a board; scmi check takes BOARD \
+                    before RECORD"
+                );
+            }
+            _ => report(rt, alloc, asked, judged, &board, &record, output.line()),
         }
-        report(rt, alloc, asked, &judged, &board, &record, output.line());
     }
     status
 }
@@ -275,9 +301,9 @@ fn report<B: Read + Drop, R: Read + Drop>(
     last_line: &[u8],
 ) {
     let name = asked.record_name();
-    if let Some(line) = line_of(last_line, b"record") {
+    if let Some(line) = line_of(last_line, RECORD) {
         report_record(rt, alloc, name, board.bytes(), record.bytes(), line);
-    } else if let Some(line) = line_of(last_line, b"long") {
+    } else if let Some(line) = line_of(last_line, "long ") {
         let _ = eprintln!(rt; "{name}:{line}: this line is longer than {INPUT_BYTES} bytes");
     } else if last_line == NOTHING && asked.picture.is_some() {
         let listed = Listed(judged);
@@ -311,13 +337,7 @@ fn fault_of_board<B: Read + Drop>(last_line: &[u8], board: &Kept<B>) -> Option<F
 }
 
 /// The line of a record that a fault of this kind names.
-fn line_of(fault: &[u8], kind: &[u8]) -> Option<u32> {
-    let mut items = Items::new(fault);
-    let is_of_kind = items.next_item().ok()? == b"fault".as_slice()
-        && items.next_item().ok()? == kind;
-    if is_of_kind {
-        items.next_word().ok()
-    } else {
-        None
-    }
+fn line_of(fault: &[u8], kind: &str) -> Option<u32> {
+    let fault = fault.strip_prefix(FAULT.as_bytes())?;
+    word(fault.strip_prefix(kind.as_bytes())?)
 }

@@ -1,11 +1,10 @@
 //! What a session says when it is asked for help.
 
-use crate::unknown_text::{Usage, named_at, protocols};
+use crate::unknown_text::{Usage, named_at, protocols, text_or};
 use scmi_codec::{HeldProtocol, HeldRow, Part};
 use scmi_live::flags_of;
 use scmi_plan::RawPlan;
 use std::io::Eprint;
-use std::str::from_utf8;
 
 /// How a step, or another line of a session, is written.
 #[derive(Clone, Copy)]
@@ -61,10 +60,8 @@ const FLAGS: [Part; 3] = [Part::RateFlags, Part::PermitFlags, Part::ResetFlags];
 
 /// Reports what a line asks for: `help`, or `help ` and a topic.
 pub fn report_help(rt: &impl Eprint, board: &RawPlan, text: &[u8]) {
-    let topic = match text {
-        [_, _, _, _, _, topic @ ..] => from_utf8(topic).unwrap_or(""),
-        _ => "",
-    };
+    let topic = text.strip_prefix(b"help ").unwrap_or(b"");
+    let topic = text_or(topic, "");
     if topic.is_empty() {
         report_rows(rt);
     } else if topic == "board" {
@@ -216,7 +213,7 @@ fn report_names(rt: &impl Eprint, rows: &[HeldRow]) {
 /// Reports the names of flags.
 fn report_flags(rt: &impl Eprint, part: Part) {
     for row in flags_of(part) {
-        report_word(rt, from_utf8(row.name).unwrap_or(""));
+        report_word(rt, text_or(row.name, ""));
     }
 }
 

@@ -2,6 +2,7 @@
 
 use crate::STANDARD_INPUT;
 use crate::opened::Opened;
+use crate::record_cause::feeds_in;
 use crate::remark::write_remark;
 use crate::report::report_output;
 use crate::serve_session::AskedSession;
@@ -144,12 +145,17 @@ impl<'a, T: Eprint, W: Write + Drop, S: Write + Drop> Teller<'a, T, W, S> {
         if whole.extend_from_slice(board).is_err() || whole.extend_from_slice(text).is_err() {
             return;
         }
-        let line = board.iter().filter(|byte| **byte == b'\n').count() + 1;
-        let fault = Fault::Script(u32::try_from(line).unwrap_or(u32::MAX));
+        let line = feeds_in(board).saturating_add(1);
+        let fault = Fault::Script(as_line(line));
         let mut found = explain(self.alloc, Expected::Session, &whole, fault);
-        found.line = Some(u32::try_from(number).unwrap_or(u32::MAX));
+        found.line = Some(as_line(number));
         let _ = eprintln!(self.rt; "{STANDARD_INPUT}{found}");
     }
+}
+
+/// The number of a line; a higher one than there may be is the highest.
+fn as_line(number: usize) -> u32 {
+    number.min(u32::MAX as usize) as u32
 }
 
 impl<T: Eprint, W: Write + Drop, S: Write + Drop> Listener for Teller<'_, T, W, S> {
@@ -183,7 +189,7 @@ impl<T: Eprint, W: Write + Drop, S: Write + Drop> Listener for Teller<'_, T, W, 
 
     fn unknown(&mut self, number: usize, text: &[u8]) {
         let board = &self.opened.said.board;
-        let agents = board.agents.len().min(u32::MAX as usize) as u32;
+        let agents = as_line(board.agents.len());
         match unknown_in(self.alloc, board, agents, text) {
             Some(unknown) => {
                 let reason = UnknownText {

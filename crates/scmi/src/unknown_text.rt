@@ -55,8 +55,17 @@ fn write_item<W: fmt::Write>(
     item: &[u8],
     behind: &str,
 ) -> fmt::Result {
-    let item = from_utf8(item).unwrap_or("(not UTF-8)");
-    write!(f, "{before}{item}{behind}")
+    f.write_str(before)?;
+    f.write_str(text_or(item, "(not UTF-8)"))?;
+    f.write_str(behind)
+}
+
+/// Bytes as a text, or another text if they are none.
+pub(crate) fn text_or<'a>(bytes: &'a [u8], other: &'a str) -> &'a str {
+    match from_utf8(bytes) {
+        Ok(text) => text,
+        Err(_) => other,
+    }
 }
 
 /// Writes that an item is no message and no protocol, and the message that it may mean.
@@ -66,7 +75,7 @@ fn write_message<W: fmt::Write>(
     item: &[u8],
 ) -> fmt::Result {
     write_item(f, "unknown message or protocol \"", item, "\"")?;
-    match near_message(alloc, from_utf8(item).unwrap_or("")) {
+    match near_message(alloc, text_or(item, "")) {
         Some(name) => write!(f, "; did you mean {name}?"),
         None => f.write_str("; docs/PROTOCOL.md has the messages"),
     }
