@@ -55,15 +55,10 @@ pub(crate) fn refused_arrow(
     ensures says { IfOk result (λ arrow.
         detail_of arrow ≡ step_detail step.now None) }
 {
-    let mut label = asked_label(alloc, board, step)?;
-    label.tag = Vec::from_slice(alloc, refusal_words(refusal).as_bytes())?;
-    Ok(Arrow {
-        agent: way.agent,
-        slot: way.slot,
-        taken: way.taken,
-        label,
-        detail: step_detail(alloc, step, None)?,
-    })
+    let tag = Vec::from_slice(alloc, refusal_words(refusal).as_bytes())?;
+    let mut arrow = asked_arrow(alloc, board, way, step, None)?;
+    arrow.label.tag = tag;
+    Ok(arrow)
 }
 
 /// Why a post was refused, in words.

@@ -1,7 +1,7 @@
 //! What the agents' posts ask for, in words.
 
 use crate::fields::add_fields;
-use crate::label::{name_label, name_of, plain_label};
+use crate::label::{empty_label, name_of};
 use crate::mark::Label;
 use crate::posts::message_of;
 use crate::words::{numbered_words, payload_words};
@@ -17,34 +17,47 @@ pub(crate) fn asked_label(
     board: &RawPlan,
     step: &Step,
 ) -> Result<Label, AllocError> {
+    let mut label = empty_label(alloc);
+    add_asked(alloc, board, &mut label, step)?;
+    Ok(label)
+}
+
+fn add_asked(
+    alloc: Global,
+    board: &RawPlan,
+    label: &mut Label,
+    step: &Step,
+) -> Result<(), AllocError> {
     match step {
         Step::Agent {
             step: AgentStep::Malformed { length, .. },
             ..
-        } => malformed_label(alloc, *length),
+        } => {
+            label.name = Vec::from_slice(alloc, b"malformed")?;
+            label.object = numbered_words(alloc, "length %", *length)?;
+            Ok(())
+        }
         _ => match message_of(step) {
-            Some(message) => command_label(alloc, board, &message),
-            None => plain_label(alloc, ""),
+            Some(message) => add_message(alloc, board, label, &message),
+            None => Ok(()),
         },
     }
 }
 
-fn malformed_label(alloc: Global, length: u32) -> Result<Label, AllocError> {
-    let mut label = plain_label(alloc, "malformed")?;
-    label.object = numbered_words(alloc, "length %", length)?;
-    Ok(label)
-}
-
-/// What a message asks for: the fields of the command that it carries, or its words.
-fn command_label(alloc: Global, board: &RawPlan, message: &Message) -> Result<Label, AllocError> {
+/// Adds what a message asks for: the fields of the command that it carries, or its words.
+fn add_message(
+    alloc: Global,
+    board: &RawPlan,
+    label: &mut Label,
+    message: &Message,
+) -> Result<(), AllocError> {
     let header = message.header;
-    let mut label = name_label(alloc, name_of(alloc, header.protocol(), header.id())?);
-    add_command(alloc, board, &mut label, message)?;
+    label.name = name_of(alloc, header.protocol(), header.id())?;
+    add_command(alloc, board, label, message)?;
     if asks_for_itself(message) {
         label.object = Vec::from_slice(alloc, b"itself")?;
     }
-    add_kind(alloc, &mut label, header.kind())?;
-    Ok(label)
+    add_kind(alloc, label, header.kind())
 }
 
 /// Adds the fields of the command that a message carries, or its words.

@@ -7,8 +7,10 @@ use crate::board_names::agent_name;
 use crate::mark::{Mark, Side};
 use crate::parties::Event;
 use crate::recorder::Recorder;
+use crate::value::{Value, filled_words};
 use scmi_link::{CloseError, Closing, ShutError};
-use std::alloc::AllocError;
+use scmi_plan::RawPlan;
+use std::alloc::{AllocError, Global};
 
 impl<'a> Recorder<'a> {
     /// The agent's end was to be closed.
@@ -51,9 +53,7 @@ impl<'a> Recorder<'a> {
         match closing {
             Err(_) => self.remark(agent, slot, Side::Platform, "close refused"),
             Ok(()) => {
-                let mut text = Vec::from_slice(self.alloc, b"closes the channels of ")?;
-                let name = agent_name(self.alloc, self.board, u32::from(agent))?;
-                text.extend_from_slice(&name)?;
+                let text = shut_words(self.alloc, self.board, agent)?;
                 self.marks.add(Mark::Closed {
                     agent,
                     slot,
@@ -63,4 +63,10 @@ impl<'a> Recorder<'a> {
             }
         }
     }
+}
+
+/// Whose channels the platform closes.
+fn shut_words(alloc: Global, board: &RawPlan, agent: u8) -> Result<Vec<u8>, AllocError> {
+    let name = agent_name(alloc, board, u32::from(agent))?;
+    filled_words(alloc, "closes the channels of %", &[Value::Words(&name)])
 }

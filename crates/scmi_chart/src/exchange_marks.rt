@@ -8,6 +8,7 @@ use crate::mark::Mark;
 use crate::parties::Event;
 use crate::recorder::Recorder;
 use crate::sign::{has_fault, reply_token};
+use crate::value::{Value, filled_words};
 use scmi_codec::Fault;
 use scmi_link::Collected;
 use scmi_text::Step;
@@ -106,10 +107,12 @@ fn fault_words(alloc: Global, fault: Fault) -> Result<Vec<u8>, AllocError> {
     match fault {
         Fault::HardwareError => Vec::from_slice(alloc, b"hardware refused"),
         _ => {
-            let mut words = Vec::from_slice(alloc, b"hardware refuses: ")?;
-            let status = fault.status();
-            words.extend_from_slice(status.name().as_bytes())?;
-            Ok(words)
+            let status = fault.status().name();
+            filled_words(
+                alloc,
+                "hardware refuses: %",
+                &[Value::Words(status.as_bytes())],
+            )
         }
     }
 }

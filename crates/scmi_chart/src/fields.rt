@@ -31,44 +31,63 @@ fn add_field(
     field: &Field,
 ) -> Result<(), AllocError> {
     match field {
-        Field::Domain(domain) => label.object = domain_name(alloc, board, *domain)?,
-        Field::Clock(clock) => label.object = clock_name(alloc, board, *clock)?,
-        Field::Agent(agent) | Field::Subject(agent) => {
-            label.object = agent_name(alloc, board, *agent)?;
+        Field::Domain(_)
+        | Field::Clock(_)
+        | Field::Agent(_)
+        | Field::Subject(_)
+        | Field::Name(_)
+        | Field::Message(_)
+        | Field::Version(_)
+        | Field::Counts(_) => {
+            label.object = object_words(alloc, board, field)?;
+            Ok(())
         }
-        Field::Name(words) => label.object = name_words(alloc, words)?,
-        Field::Message(id) => label.object = hex_words(alloc, *id)?,
-        Field::Version(word) => label.object = version_words(alloc, *word)?,
-        Field::Counts(word) => label.object = counts_words(alloc, *word)?,
-        Field::State(state) => set_value(label, state_words(alloc, *state)?),
-        Field::Rate(hertz) => set_value(label, rate_words(alloc, *hertz)?),
+        Field::State(state) => set_value(label, state_words(alloc, *state)),
+        Field::Rate(hertz) => set_value(label, rate_words(alloc, *hertz)),
+        Field::Device(device) => {
+            label.value = numbered_words(alloc, "device %", *device)?;
+            Ok(())
+        }
+        Field::Protocol(protocol) => {
+            add_behind(&mut label.value, &protocol_words(alloc, *protocol)?)
+        }
+        Field::By(agent) => add_cause(alloc, board, label, *agent),
+        Field::Index(index) => add_remark(label, &numbered_words(alloc, "from %", *index)?),
+        Field::Skip(count) => add_remark(label, &numbered_words(alloc, "skip %", *count)?),
         Field::Enable(bits) | Field::ClockAttributes(bits) => {
             label.value = Vec::from_slice(alloc, switch_word(*bits).as_bytes())?;
-            add_flags(alloc, label, SWITCH, *bits)?;
+            add_flags(alloc, label, SWITCH, *bits)
         }
-        Field::Device(device) => label.value = numbered_words(alloc, "device %", *device)?,
-        Field::Protocol(protocol) => {
-            add_behind(&mut label.value, &protocol_words(alloc, *protocol)?)?;
-        }
-        Field::By(agent) => add_cause(alloc, board, label, *agent)?,
-        Field::Index(index) => add_remark(label, &numbered_words(alloc, "from %", *index)?)?,
-        Field::Skip(count) => add_remark(label, &numbered_words(alloc, "skip %", *count)?)?,
-        Field::PowerFlags(bits) => add_flags(alloc, label, POWER, *bits)?,
-        Field::PermitFlags(bits) => add_flags(alloc, label, PERMIT, *bits)?,
-        Field::ResetFlags(bits) => add_flags(alloc, label, RESET, *bits)?,
-        Field::RateFlags(bits) => add_flags(alloc, label, RATE, *bits)?,
-        _ => {}
+        Field::PowerFlags(bits) => add_flags(alloc, label, POWER, *bits),
+        Field::PermitFlags(bits) => add_flags(alloc, label, PERMIT, *bits),
+        Field::ResetFlags(bits) => add_flags(alloc, label, RESET, *bits),
+        Field::RateFlags(bits) => add_flags(alloc, label, RATE, *bits),
+        _ => Ok(()),
     }
-    Ok(())
+}
+
+/// What a message is about, by a field of it.
+fn object_words(alloc: Global, board: &RawPlan, field: &Field) -> Result<Vec<u8>, AllocError> {
+    match field {
+        Field::Domain(domain) => domain_name(alloc, board, *domain),
+        Field::Clock(clock) => clock_name(alloc, board, *clock),
+        Field::Agent(agent) | Field::Subject(agent) => agent_name(alloc, board, *agent),
+        Field::Name(words) => name_words(alloc, words),
+        Field::Message(id) => hex_words(alloc, *id),
+        Field::Version(word) => version_words(alloc, *word),
+        Field::Counts(word) => counts_words(alloc, *word),
+        _ => Ok(Vec::new(alloc)),
+    }
 }
 
 /// Sets a state or a rate: what an object gets, or what it has if the message names none.
-fn set_value(label: &mut Label, words: Vec<u8>) {
+fn set_value(label: &mut Label, words: Result<Vec<u8>, AllocError>) -> Result<(), AllocError> {
     if label.object.is_empty() {
-        label.object = words;
+        label.object = words?;
     } else {
-        label.value = words;
+        label.value = words?;
     }
+    Ok(())
 }
 
 /// The version of a protocol.

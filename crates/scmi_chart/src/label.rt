@@ -6,19 +6,14 @@ use scmi_codec::message_name;
 use scmi_decode::protocol_name;
 use std::alloc::{AllocError, Global};
 
-/// A label of a name alone.
-pub(crate) fn name_label(alloc: Global, name: Vec<u8>) -> Label {
+/// A label without words.
+pub(crate) fn empty_label(alloc: Global) -> Label {
     Label {
-        name,
+        name: Vec::new(alloc),
         object: Vec::new(alloc),
         value: Vec::new(alloc),
         tag: Vec::new(alloc),
     }
-}
-
-/// A label of these words alone.
-pub(crate) fn plain_label(alloc: Global, words: &str) -> Result<Label, AllocError> {
-    Ok(name_label(alloc, Vec::from_slice(alloc, words.as_bytes())?))
 }
 
 /// The name of a message; if the profile has none, its protocol and id.

@@ -3,7 +3,7 @@
 use crate::chart::{Chart, Column, Span, State};
 use crate::drawn_marks::class_of;
 use crate::mark::Mark;
-use crate::shape::{NOTHING, Point, Shape, drawn, write_shapes};
+use crate::shape::{Point, Shape, drawn, write_shapes};
 use crate::value::Value;
 use scmi_io::write_filled;
 use std::io;
@@ -71,7 +71,7 @@ macro_rules! entries {
 /// How many entries there are.
 const COUNT: usize = 14;
 /// All lines and signs, in order.
-const ENTRIES: [Entry; COUNT] = entries![
+const ENTRIES: &[Entry; COUNT] = &entries![
     Where::Mark("command"), 103 "command" ARROW 34 "command";
     Where::Lost, 108 "sign" CROSS 22 "not executed";
     Where::Mark("reply"), 91 "reply" ARROW 34 "reply";
@@ -88,30 +88,34 @@ const ENTRIES: [Entry; COUNT] = entries![
     Where::Dropped, 150 "sign" CROSS 22 "notification dropped";
 ];
 
-/// The explanations of what a chart has, and the height of their rows.
+/// Where the explanations of what a chart has are, and the height of their rows.
 #[derive(Clone, Copy)]
 pub(crate) struct Legend {
-    entries: [Shape<'static>; COUNT],
+    places: [Option<Point>; COUNT],
     pub height: u32,
+}
+
+fn entries() -> &'static [Entry; COUNT] {
+    ENTRIES
 }
 
 /// The legend of a chart in rows of this width: an entry is in the next row if there is no room for
 /// it in this one.
 pub(crate) fn legend_of(chart: &Chart, width: u32) -> Legend {
-    let mut entries = [NOTHING; COUNT];
+    let mut places = [None; COUNT];
     let mut at = Point { x: 0, y: 0 };
     for i in 0..COUNT {
-        let entry = &ENTRIES[i];
+        let entry = &entries()[i];
         if is_used(chart, entry.place) {
             if at.x > 0 && at.x.saturating_add(entry.width) > width {
                 at = Point { x: 0, y: at.y }.behind(0, ROW);
             }
-            entries[i] = shape_of(entry, at);
+            places[i] = Some(at);
             at = at.behind(entry.width, 0);
         }
     }
     let height = at.y.saturating_add(ROW);
-    Legend { entries, height }
+    Legend { places, height }
 }
 
 fn shape_of(entry: &Entry, at: Point) -> Shape<'static> {
@@ -124,7 +128,11 @@ fn shape_of(entry: &Entry, at: Point) -> Shape<'static> {
 /// Writes a legend at this height.
 pub(crate) fn write_legend<W: Write>(writer: &mut W, legend: &Legend, y: u32) -> io::Result<()> {
     write_filled(writer, BEGIN, &[Value::Number(y)])?;
-    write_shapes(writer, &legend.entries)?;
+    for i in 0..COUNT {
+        if let Some(at) = legend.places[i] {
+            write_shapes(writer, &[shape_of(&entries()[i], at)])?;
+        }
+    }
     writer.write_all(b"</svg>\n")
 }
 

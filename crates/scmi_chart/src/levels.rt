@@ -3,8 +3,7 @@
 use crate::board_names::{agent_name, clock_name, domain_name};
 use crate::chart::{Column, Dropped, Span, State};
 use crate::subject::Subject;
-use crate::value::{Value, filled_words};
-use crate::words::{rate_words, state_words};
+use crate::words::{rate_words, state_words, two_words};
 use scmi_core::Core;
 use scmi_plan::RawPlan;
 use std::alloc::{AllocError, Global};
@@ -206,15 +205,12 @@ impl Track {
     /// What it is now; nothing of an outbox.
     fn words(&self, alloc: Global, board: &RawPlan) -> Result<Vec<u8>, AllocError> {
         let value = match self.value.state {
-            Some(State::On) => state_words(alloc, 0)?,
-            Some(State::Off) => state_words(alloc, 0x4000_0000)?,
-            Some(State::Rate { hertz, .. }) => rate_words(alloc, hertz)?,
+            Some(State::On) => state_words(alloc, 0),
+            Some(State::Off) => state_words(alloc, 0x4000_0000),
+            Some(State::Rate { hertz, .. }) => rate_words(alloc, hertz),
             _ => return Ok(Vec::new(alloc)),
         };
-        let mut words = self.name(alloc, board)?;
-        words.extend_from_slice(b" is ")?;
-        words.extend_from_slice(&value)?;
-        Ok(words)
+        two_words(alloc, "% is %", self.name(alloc, board), value)
     }
 
     /// The column of these states, up to a time.
@@ -247,12 +243,10 @@ fn dropped_words(
     agent: u32,
     domain: u32,
 ) -> Result<Vec<u8>, AllocError> {
-    let domain = domain_name(alloc, board, domain)?;
-    let agent = agent_name(alloc, board, agent)?;
-    let names = [Value::Words(&domain), Value::Words(&agent)];
-    filled_words(
-        alloc,
-        "the notification of % for % was dropped: its outbox has no room",
-        &names,
-    )
+    let (domain, agent) = (
+        domain_name(alloc, board, domain),
+        agent_name(alloc, board, agent),
+    );
+    let text = "the notification of % for % was dropped: its outbox has no room";
+    two_words(alloc, text, domain, agent)
 }

@@ -1,7 +1,7 @@
 //! What the messages that the platform posts of its own accord report, in words.
 
 use crate::fields::add_fields;
-use crate::label::{name_label, name_of, plain_label};
+use crate::label::{empty_label, name_of};
 use crate::mark::Label;
 use crate::reply_label::status_words;
 use crate::value::{Value, filled_words};
@@ -16,34 +16,39 @@ pub(crate) fn posted_label(
     board: &RawPlan,
     message: &Message,
 ) -> Result<Label, AllocError> {
-    let mut label = posted_name(alloc, message)?;
-    add_posted_fields(alloc, board, &mut label, message)?;
+    let mut label = empty_label(alloc);
+    add_posted(alloc, board, &mut label, message)?;
     Ok(label)
 }
 
-/// The name of a notification, or that of a delayed response.
-fn posted_name(alloc: Global, message: &Message) -> Result<Label, AllocError> {
+/// Adds the name of a notification, or that of a delayed response, and the fields.
+fn add_posted(
+    alloc: Global,
+    board: &RawPlan,
+    label: &mut Label,
+    message: &Message,
+) -> Result<(), AllocError> {
     match notification_name(message.header.protocol(), message.header.id()) {
-        Some(name) if message.header.kind() == 3 => plain_label(alloc, name),
-        _ => delayed_label(alloc, message),
+        Some(name) if message.header.kind() == 3 => {
+            label.name = Vec::from_slice(alloc, name.as_bytes())?;
+        }
+        _ => add_delayed(alloc, label, message)?,
     }
+    add_posted_fields(alloc, board, label, message)
 }
 
-/// The name of a delayed response, and its status if that is not success.
-fn delayed_label(alloc: Global, message: &Message) -> Result<Label, AllocError> {
+/// Adds the name of a delayed response, and its status if that is not success.
+fn add_delayed(alloc: Global, label: &mut Label, message: &Message) -> Result<(), AllocError> {
     let name = name_of(alloc, message.header.protocol(), message.header.id())?;
+    let names = [Value::Words(&name)];
     match message.payload.as_slice() {
         [status, ..] if *status != 0 => {
-            let failed = filled_words(alloc, "% failed", &[Value::Words(&name)])?;
-            let mut label = name_label(alloc, failed);
+            label.name = filled_words(alloc, "% failed", &names)?;
             label.object = status_words(alloc, *status)?;
-            Ok(label)
         }
-        _ => {
-            let completed = filled_words(alloc, "% completed", &[Value::Words(&name)])?;
-            Ok(name_label(alloc, completed))
-        }
+        _ => label.name = filled_words(alloc, "% completed", &names)?,
     }
+    Ok(())
 }
 
 /// Adds the fields of a notification, or of a delayed response after its status.

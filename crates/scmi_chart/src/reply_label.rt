@@ -1,7 +1,7 @@
 //! What answers report, in words.
 
 use crate::fields::add_fields;
-use crate::label::{name_label, plain_label};
+use crate::label::empty_label;
 use crate::mark::{Label, Outcome};
 use crate::value::{Value, filled_words};
 use crate::words::{hex_words, payload_words};
@@ -17,31 +17,50 @@ pub(crate) fn answer_label(
     answer: &Answer,
     outcome: Outcome,
 ) -> Result<Label, AllocError> {
-    match answer {
-        Answer::Reply(message) => reply_label(alloc, board, message, outcome),
-        Answer::Released => plain_label(alloc, "released, no reply"),
-        Answer::ChannelError => plain_label(alloc, "channel error"),
-    }
-}
-
-/// What a reply reports: its status, and what follows it.
-fn reply_label(
-    alloc: Global,
-    board: &RawPlan,
-    message: &Message,
-    outcome: Outcome,
-) -> Result<Label, AllocError> {
-    let [word, words @ ..] = message.payload.as_slice() else {
-        return plain_label(alloc, "no status");
-    };
-    let mut label = name_label(alloc, status_words(alloc, *word)?);
-    add_reply(alloc, board, &mut label, &message.header, words)?;
-    add_outcome(alloc, &mut label, outcome)?;
+    let mut label = empty_label(alloc);
+    add_answer(alloc, board, &mut label, answer, outcome)?;
     Ok(label)
 }
 
-/// Adds what follows the status of a reply.
+fn add_answer(
+    alloc: Global,
+    board: &RawPlan,
+    label: &mut Label,
+    answer: &Answer,
+    outcome: Outcome,
+) -> Result<(), AllocError> {
+    let name: &[u8] = match answer {
+        Answer::Reply(message) => return add_reply(alloc, board, label, message, outcome),
+        Answer::Released => b"released, no reply",
+        Answer::ChannelError => b"channel error",
+    };
+    label.name = Vec::from_slice(alloc, name)?;
+    Ok(())
+}
+
+/// Adds what a reply reports: its status, what follows it, and that a set takes effect later, if it
+/// does.
 fn add_reply(
+    alloc: Global,
+    board: &RawPlan,
+    label: &mut Label,
+    message: &Message,
+    outcome: Outcome,
+) -> Result<(), AllocError> {
+    let [word, words @ ..] = message.payload.as_slice() else {
+        label.name = Vec::from_slice(alloc, b"no status")?;
+        return Ok(());
+    };
+    label.name = status_words(alloc, *word)?;
+    add_reply_fields(alloc, board, label, &message.header, words)?;
+    if matches!(outcome, Outcome::Pending) {
+        label.tag = Vec::from_slice(alloc, b"accepted, takes effect at an advance")?;
+    }
+    Ok(())
+}
+
+/// Adds what follows the status of a reply.
+fn add_reply_fields(
     alloc: Global,
     board: &RawPlan,
     label: &mut Label,
@@ -56,17 +75,6 @@ fn add_reply(
             Ok(())
         }
     }
-}
-
-/// Adds that a set takes effect later, if it does.
-fn add_outcome(alloc: Global, label: &mut Label, outcome: Outcome) -> Result<(), AllocError> {
-    match outcome {
-        Outcome::Pending => {
-            label.tag = Vec::from_slice(alloc, b"accepted, takes effect at an advance")?;
-        }
-        Outcome::Success | Outcome::Refusal => {}
-    }
-    Ok(())
 }
 
 /// A status by its name, or else its word.

@@ -7,7 +7,7 @@ use crate::board_names::{clock_name, domain_name};
 use crate::mark::{Mark, Side};
 use crate::recorder::Recorder;
 use crate::value::{Value, filled_words};
-use crate::words::{numbered_words, rate_words, state_words, switch_word};
+use crate::words::{numbered_words, rate_words, state_words, switch_word, two_words};
 use scmi_core::Core;
 use scmi_plan::{Effect, RawPlan, Report};
 use scmi_text::Step;
@@ -59,25 +59,20 @@ fn report_words(
 ) -> Result<Vec<u8>, AllocError> {
     match report {
         Report::Changed(effect) => {
-            let name = changed_name(alloc, board, effect)?;
-            let value = value_words(alloc, effect)?;
-            filled_words(
-                alloc,
-                "reported: % is %",
-                &[Value::Words(&name), Value::Words(&value)],
-            )
+            let name = changed_name(alloc, board, effect);
+            two_words(alloc, "reported: % is %", name, value_words(alloc, effect))
         }
         Report::First(place) => {
             let set = first_set(alloc, board, place, core)?;
             filled_words(alloc, "reported: % ends first", &[Value::Words(&set)])
         }
         Report::Settled { clock, rate } => {
-            let name = clock_name(alloc, board, clock)?;
-            let rate = rate_words(alloc, rate)?;
-            filled_words(
+            let name = clock_name(alloc, board, clock);
+            two_words(
                 alloc,
                 "reported: % settles at %",
-                &[Value::Words(&name), Value::Words(&rate)],
+                name,
+                rate_words(alloc, rate),
             )
         }
     }

@@ -39,6 +39,17 @@ pub(crate) fn numbered_words(
     filled_words(alloc, text, &[Value::Hex(number)])
 }
 
+/// A text with these words in its holes.
+pub(crate) fn two_words(
+    alloc: Global,
+    text: &str,
+    first: Result<Vec<u8>, AllocError>,
+    second: Result<Vec<u8>, AllocError>,
+) -> Result<Vec<u8>, AllocError> {
+    let (first, second) = (first?, second?);
+    filled_words(alloc, text, &[Value::Words(&first), Value::Words(&second)])
+}
+
 /// A rate, as columns have it.
 pub(crate) fn rate_words(alloc: Global, hertz: u64) -> Result<Vec<u8>, AllocError> {
     filled_words(alloc, "%", &[Value::Rate(hertz)])
@@ -50,12 +61,12 @@ const SHOWN_WORDS: usize = 4;
 /// The first payload words, hexadecimal, and how many follow them.
 pub(crate) fn payload_words(alloc: Global, words: &[u32]) -> Result<Vec<u8>, AllocError> {
     let shown = &words[..words.len().min(SHOWN_WORDS)];
-    let mut text = all_words(alloc, shown)?;
-    if words.len() > SHOWN_WORDS {
-        let hidden = Value::Count(words.len() - SHOWN_WORDS);
-        text.extend_from_slice(&filled_words(alloc, " and % more", &[hidden])?)?;
+    let text = all_words(alloc, shown)?;
+    if words.len() <= SHOWN_WORDS {
+        return Ok(text);
     }
-    Ok(text)
+    let hidden = Value::Count(words.len() - SHOWN_WORDS);
+    filled_words(alloc, "% and % more", &[Value::Words(&text), hidden])
 }
 
 /// Words, hexadecimal.
