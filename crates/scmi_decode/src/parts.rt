@@ -26,7 +26,7 @@ pub(crate) struct Parts<'a> {
     pub(crate) column: &'a [u8],
 }
 
-impl Model for Parts<'_> {
+impl<'a> Model for Parts<'a> {
     ghost use Rattle.scmi_decode.specs.Row.{RowParts};
 
     ghost Value = { RowParts };
