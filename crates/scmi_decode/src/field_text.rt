@@ -20,34 +20,73 @@ impl fmt::Display for Field {
         match *self {
             Field::Version(word) => write!(f, "version     {}.{}", word >> 16, word & 0xffff),
             Field::Counts(word) => write_counts(f, word),
-            Field::Message(id) => write!(f, "message     0x{id:x}"),
-            Field::Attributes(word) => write!(f, "attributes  0x{word:08x}"),
+            Field::Message(id) => write_id(f, "message     ", id),
+            Field::Attributes(word) => write_word(f, "attributes  ", word),
             Field::Name(words) => write!(f, "name        {}", NameText(words)),
-            Field::Implementation(word) => write!(f, "version     0x{word:08x}"),
-            Field::Skip(count) => write!(f, "skip        {count}"),
+            Field::Implementation(word) => write_word(f, "version     ", word),
+            Field::Skip(count) => write_number(f, "skip        ", count),
             Field::Agent(agent) => write_agent(f, agent, "the caller"),
             Field::Subject(agent) => write_agent(f, agent, "no agent, 0xffffffff"),
-            Field::Device(device) => write!(f, "device      {device}"),
-            Field::Protocol(protocol) => write!(f, "protocol    0x{protocol:x}"),
-            Field::PermitFlags(word) => write!(f, "flags       {}", Switch(word, "allow", "deny")),
-            Field::ResetFlags(word) => write!(f, "flags      {}", Flags(word, &RESET_FLAGS)),
+            Field::Device(device) => write_number(f, "device      ", device),
+            Field::Protocol(protocol) => write_id(f, "protocol    ", protocol),
+            Field::PermitFlags(word) => write_switch(
+                f,
+                "flags       ",
+                Switch(word, "allow", "deny"),
+            ),
+            Field::ResetFlags(word) => write_flags(f, "flags      ", Flags(word, &RESET_FLAGS)),
             Field::Domains(word) => write_domains(f, word),
             Field::Statistics(words) => write_statistics(f, words),
-            Field::Domain(domain) => write!(f, "domain      {domain}"),
-            Field::DomainAttributes(word) => write!(f, "supports   {}", Flags(word, &SUPPORTS)),
-            Field::PowerFlags(word) => write!(f, "flags      {}", Flags(word, &POWER_FLAGS)),
+            Field::Domain(domain) => write_number(f, "domain      ", domain),
+            Field::DomainAttributes(word) => write_flags(f, "supports   ", Flags(word, &SUPPORTS)),
+            Field::PowerFlags(word) => write_flags(f, "flags      ", Flags(word, &POWER_FLAGS)),
             Field::State(word) => write_state(f, word),
-            Field::Enable(word) => write!(f, "notify      {}", Switch(word, "on", "off")),
+            Field::Enable(word) => write_switch(f, "notify      ", Switch(word, "on", "off")),
             Field::Clocks(word) => write_clocks(f, word),
-            Field::Clock(clock) => write!(f, "clock       {clock}"),
-            Field::ClockAttributes(word) => write!(f, "attributes  {}", Switch(word, "on", "off")),
-            Field::Index(index) => write!(f, "index       {index}"),
-            Field::RateFlags(word) => write!(f, "flags      {}", Flags(word, &RATE_FLAGS)),
+            Field::Clock(clock) => write_number(f, "clock       ", clock),
+            Field::ClockAttributes(word) => write_switch(
+                f,
+                "attributes  ",
+                Switch(word, "on", "off"),
+            ),
+            Field::Index(index) => write_number(f, "index       ", index),
+            Field::RateFlags(word) => write_flags(f, "flags      ", Flags(word, &RATE_FLAGS)),
             Field::Rate(rate) => write!(f, "rate        {rate} Hz"),
             Field::By(0) => f.write_str("by          platform"),
-            Field::By(agent) => write!(f, "by          agent {agent}"),
+            Field::By(agent) => write_number(f, "by          agent ", agent),
         }
     }
+}
+
+/// Writes a number in decimal digits after a name.
+fn write_number<W: fmt::Write>(f: &mut fmt::Formatter<W>, name: &str, number: u32) -> fmt::Result {
+    write!(f, "{name}{number}")
+}
+
+/// Writes a number in hexadecimal digits after a name.
+fn write_id<W: fmt::Write>(f: &mut fmt::Formatter<W>, name: &str, id: u32) -> fmt::Result {
+    write!(f, "{name}0x{id:x}")
+}
+
+/// Writes a word of eight hexadecimal digits after a name.
+fn write_word<W: fmt::Write>(f: &mut fmt::Formatter<W>, name: &str, word: u32) -> fmt::Result {
+    write!(f, "{name}0x{word:08x}")
+}
+
+fn write_switch<W: fmt::Write>(
+    f: &mut fmt::Formatter<W>,
+    name: &str,
+    switch: Switch,
+) -> fmt::Result {
+    write!(f, "{name}{switch}")
+}
+
+fn write_flags<W: fmt::Write>(
+    f: &mut fmt::Formatter<W>,
+    name: &str,
+    flags: Flags<'_>,
+) -> fmt::Result {
+    write!(f, "{name}{flags}")
 }
 
 /// Writes the attributes of the base protocol.
