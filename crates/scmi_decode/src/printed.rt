@@ -46,45 +46,37 @@ fn write_finding<W: Write>(writer: &mut W, finding: &Finding, text: &[u8]) -> io
         }
         Found::OtherSize { count } => write_other_size(writer, *count),
         Found::Cut { count, size } => write!(writer, "no area: {count} bytes of {size}\n"),
-        Found::NoBytes {
-            why: NoBytes::Digits,
-        } => {
-            let advice = advice_for(text);
+        Found::NoBytes { why } => {
+            let advice = why_none(*why, text);
             write!(writer, "no area: {advice}\n")
         }
-        Found::NoBytes {
-            why: NoBytes::Order,
-        } => write!(
-            writer,
-            "no area: its digits may be bytes or numbers; print single bytes (xxd -g 1, \
-            od -t x1, md.b) or mark numbers with 0x\n"
-        ),
-        Found::NoBytes {
-            why: NoBytes::Address,
-        } => write!(
-            writer,
-            "no area: its first column may be addresses; print single bytes (od -t x1), or no \
-            addresses (od -A n -v)\n"
-        ),
-        Found::NoBytes {
-            why: NoBytes::Repeats,
-        } => write!(
-            writer,
-            "no area: it is unclear how often a row before `*` repeats; print each row (od -v, \
-            hexdump -vC, xxd without -a)\n"
-        ),
-        Found::NoBytes {
-            why: NoBytes::WideRow,
-        } => write!(
-            writer,
-            "no area: its first item may be an address; print at most 32 bytes a row (od -w16), \
-            or no addresses (od -A n -v)\n"
-        ),
-        Found::NoBytes { why: NoBytes::Part } => write!(
-            writer,
-            "no area: it may be a part of an area; print at most 32 bytes a row (od -w16), put an \
-            empty line between areas, or give --size N\n"
-        ),
+    }
+}
+
+/// Why a dump has no bytes, and what to do about it.
+fn why_none(why: NoBytes, text: &[u8]) -> &'static str {
+    match why {
+        NoBytes::Digits => advice_for(text),
+        NoBytes::Order => {
+            "its digits may be bytes or numbers; print single bytes (xxd -g 1, od -t x1, md.b) or \
+            mark numbers with 0x"
+        }
+        NoBytes::Address => {
+            "its first column may be addresses; print single bytes (od -t x1), or no addresses \
+            (od -A n -v)"
+        }
+        NoBytes::Repeats => {
+            "it is unclear how often a row before `*` repeats; print each row (od -v, hexdump \
+            -vC, xxd without -a)"
+        }
+        NoBytes::WideRow => {
+            "its first item may be an address; print at most 32 bytes a row (od -w16), or no \
+            addresses (od -A n -v)"
+        }
+        NoBytes::Part => {
+            "it may be a part of an area; print at most 32 bytes a row (od -w16), put an empty \
+            line between areas, or give --size N"
+        }
     }
 }
 
