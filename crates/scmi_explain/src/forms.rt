@@ -92,6 +92,12 @@ pub(crate) const SCRIPT_LINES: [Form; 21] = forms![
     "restart A";
 ];
 
+/// The lines of a script on one thread that all such modes take.
+pub(crate) fn steps() -> &'static [Form] {
+    let lines: &'static [Form] = &SCRIPT_LINES;
+    &lines[..STEPS]
+}
+
 /// The lines of the scripts of agents in threads.
 pub(crate) const ORDERS: [Form; 5] = forms![
     "script A";

@@ -1,7 +1,7 @@
 //! Lines of other files than the one that is expected.
 
 use crate::fit::begins_as;
-use crate::forms::{SCRIPT_LINES, STEPS};
+use crate::forms::steps;
 use crate::sentence::{Sentence, Slip};
 use crate::text::{are_hexadecimal, first_word, is_space};
 
@@ -28,7 +28,7 @@ pub(crate) fn slip_of_other_file(line: &[u8]) -> Option<Slip> {
 /// with a word of a step, or is one of a trace.
 pub(crate) fn is_of_record(line: &[u8]) -> bool {
     matches!(line, [digit, b' ', ..] if digit.is_ascii_digit())
-        || begins_as(&SCRIPT_LINES[..STEPS], line)
+        || begins_as(steps(), line)
         || line.split(is_space).any(|item| item == EVENT)
 }
 

@@ -3,7 +3,7 @@
 use crate::board::NOT_KEPT;
 use crate::explanation::{Cause, What, plain};
 use crate::fit::{EXTRA, Fit, MISSING, begins_as, fit_of, fits_well};
-use crate::forms::{Form, HEADINGS, ORDERS, SCRIPT_LINES, STEPS, rows};
+use crate::forms::{BOARD_LINES, Form, HEADINGS, ORDERS, SCRIPT_LINES, STEPS, steps};
 use crate::numbers::NO_NUMBER;
 use crate::piece::Piece;
 use crate::rows::Rows;
@@ -11,12 +11,6 @@ use crate::sentence::{Sentence, Slip};
 use crate::slip::{slip_of_bytes, slip_of_other_bytes, slip_of_word};
 use crate::text::{begins_with, behind_first, first_line, first_word, line_at, second_number};
 use std::alloc::Global;
-
-/// The lines of the scripts on one thread.
-fn steps() -> &'static [Form] {
-    let lines: &'static [Form] = &SCRIPT_LINES;
-    &lines[..STEPS]
-}
 
 /// The lines of the scripts of the mode that is the first line.
 fn forms_of(mode: &[u8]) -> &'static [Form] {
@@ -71,7 +65,7 @@ fn slip_of_item(forms: &[Form], line: &[u8], board: &[u8], wrong: &str) -> Optio
 
 /// The slip of a line whose first word is not one of these scripts.
 fn slip_of_unknown(alloc: Global, forms: &'static [Form], line: &[u8]) -> Option<Slip> {
-    if begins_as(rows(), line) || begins_as(&HEADINGS, line) {
+    if begins_as(&BOARD_LINES, line) || begins_as(&HEADINGS, line) {
         return Some(Sentence::of("it belongs on the board, which ended before"));
     }
     slip_of_modes(
