@@ -30,28 +30,36 @@ use Rattle.scmi_c.proofs.Areas.{answer-within, one-word}
 use Rattle.scmi_c.specs.Words.{IsWritten, count_of, words_after}
 
 -- a reply with this header word was written
-written-reply : (answer : Answer) (reply : Message) (header count : ℕ) (before after : List ℕ) → Reply reply ≡ answer → length reply.payload.items < length before
+written-reply : (answer : Answer) (reply : Message) (header count : ℕ) (before after : List ℕ) → Reply reply ≡ answer
     → header ≡ header_word reply.header
-    → (length reply.payload.items < length before → count ≡ 1 + length reply.payload.items)
-    → (length reply.payload.items < length before → after ≡ (header ∷ reply.payload.items) ++ drop (1 + length reply.payload.items) before)
+    → count ≡ 1 + length reply.payload.items
+    → after ≡ (header ∷ reply.payload.items) ++ drop (1 + length reply.payload.items) before
     → IsWritten answer count before after
-written-reply answer reply header count before after is room head counted written =
+written-reply answer reply header count before after is head counted written =
     subst (λ a. IsWritten a count before after) is (
-      counted room,
-      written room ∙ ap (λ (w : ℕ). (w ∷ reply.payload.items) ++ drop (1 + length reply.payload.items) before) head,
+      counted,
+      written ∙ ap (λ (w : ℕ). (w ∷ reply.payload.items) ++ drop (1 + length reply.payload.items) before) head,
     )
+
+-- there is room for the reply to a frame where there is room for the channel's words
+pub reply-room : (board : Board) (a : ℕ) (h : List Event) (frame : Frame) (x : Answered) (reply : Message) (room : ℕ)
+    → IsValid board → (channel_of board a).words < room → answer_with x reply ≡ answer_to board a frame h → (answer_to board a frame h ≢ ChannelError)
+    → length reply.payload.items < room
+reply-room board a h frame answered.Reply reply room law wide is replied =
+    let short : IsAnswerWithin board a (Reply reply) = subst (IsAnswerWithin board a) (sym is) (answer-within board a frame h law) in
+    omega (arith, short, wide)
+reply-room board a h frame answered.ChannelError reply room law wide is replied = absurd (replied (sym is))
 
 -- a frame that is answered by a reply, which was written
 pub written-answer : (board : Board) (a : ℕ) (h : List Event) (frame : Frame) (x : Answered) (reply : Message) (header count : ℕ) (before after : List ℕ)
-    → IsValid board → (channel_of board a).words < length before → answer_with x reply ≡ answer_to board a frame h → (answer_to board a frame h ≢ ChannelError)
+    → answer_with x reply ≡ answer_to board a frame h → (answer_to board a frame h ≢ ChannelError)
     → (Reply reply ≡ answer_to board a frame h → header ≡ header_word reply.header)
-    → (length reply.payload.items < length before → count ≡ 1 + length reply.payload.items)
-    → (length reply.payload.items < length before → after ≡ (header ∷ reply.payload.items) ++ drop (1 + length reply.payload.items) before)
+    → count ≡ 1 + length reply.payload.items
+    → after ≡ (header ∷ reply.payload.items) ++ drop (1 + length reply.payload.items) before
     → IsWritten (answer_to board a frame h) count before after
-written-answer board a h frame answered.Reply reply header count before after law room is replied head counted written =
-    let short : IsAnswerWithin board a (Reply reply) = subst (IsAnswerWithin board a) (sym is) (answer-within board a frame h law) in
-    written-reply (answer_to board a frame h) reply header count before after is (omega (arith, short, room)) (head is) counted written
-written-answer board a h frame answered.ChannelError reply header count before after law room is replied head counted written = absurd (replied (sym is))
+written-answer board a h frame answered.Reply reply header count before after is replied head counted written =
+    written-reply (answer_to board a frame h) reply header count before after is (head is) counted written
+written-answer board a h frame answered.ChannelError reply header count before after is replied head counted written = absurd (replied (sym is))
 
 -- a message that fits its channel is answered by a reply
 pub fitting-replied : (board : Board) (a : ℕ) (h : List Event) (m : Message) → length m.payload.items ≤ (channel_of board a).words → answer_to board a (Good m) h ≢ ChannelError
@@ -83,11 +91,15 @@ some-room bytes room size wide =
     let long : 60 ≤ bytes = leb-true 60 bytes (and_parts (nat_le 60 bytes) (nat_le bytes 284 && (bytes % 4 == 0)) size).0 in
     omega (arith, long, wide)
 
--- a reply of a status alone was written
-pub failed-written : (frame : Frame) (fault : Fault) (reply : Message) (count : ℕ) (before after : List ℕ) → Reply reply ≡ failed_answer frame fault → 2 ≤ length before
-    → (length reply.payload.items < length before → count ≡ count_of reply)
-    → (length reply.payload.items < length before → after ≡ words_after reply before)
-    → IsWritten (failed_answer frame fault) count before after
-failed-written frame fault reply count before after is room counted written =
+-- there is room for a reply of a status alone
+pub failed-room : (frame : Frame) (fault : Fault) (reply : Message) (room : ℕ) → Reply reply ≡ failed_answer frame fault → 2 ≤ room → length reply.payload.items < room
+failed-room frame fault reply room is wide =
     let one = one-word frame fault reply is in
-    written-reply (failed_answer frame fault) reply (header_word reply.header) count before after is (omega (arith, one, room)) refl counted written
+    omega (arith, one, wide)
+
+-- a reply of a status alone was written
+pub failed-written : (frame : Frame) (fault : Fault) (reply : Message) (count : ℕ) (before after : List ℕ) → Reply reply ≡ failed_answer frame fault
+    → count ≡ count_of reply → after ≡ words_after reply before
+    → IsWritten (failed_answer frame fault) count before after
+failed-written frame fault reply count before after is counted written =
+    written-reply (failed_answer frame fault) reply (header_word reply.header) count before after is refl counted written

@@ -149,6 +149,7 @@ pub fn ask(
         return Err(Refusal::NoFrame);
     };
     held.check_aside(aside, agent, &exchange.frame)?;
+    held.check_agent(agent)?;
     let effect = held.effect_of(agent, &exchange.frame)?;
     if effect.is_none() {
         execute(held, exchange, agent, area);

@@ -50,11 +50,13 @@ impl Waiting {
 /// that is to change the hardware, it waits here, as it was read and with that change, until it is
 /// committed or has failed, and neither can be refused. Commands that are set aside wait beside it,
 /// until they are taken up. Contracts see the platform, and these commands with their changes.
+// The platform stands behind what is small, whose words are then at offsets that an instruction has
+// room for.
 #[derive(Drop)]
 pub struct Desk {
-    pub held: Held,
-    pub exchange: Exchange,
     pub waiting: Waiting,
+    pub exchange: Exchange,
+    pub held: Held,
     pub aside: Aside,
 }
 

@@ -43,8 +43,7 @@ impl Held {
                 count(&mut self.events);
                 answered
             }
-            // Never, since the board has the agent.
-            Err(_) => Answered::ChannelError,
+            Err(_) => unreachable!(), // The board has the agent.
         }
     }
 
@@ -85,22 +84,19 @@ impl Held {
         }
     }
 
-    /// What an agent's command is to change of the hardware, before it is executed; `None` if it
-    /// changes nothing of it. `NoAgent` if the board lacks the agent; `Other` for a command of a
-    /// protocol of the board that the firmware answers.
+    /// What a command of an agent of the board is to change of the hardware, before it is executed;
+    /// `None` if it changes nothing of it. `Other` for a command of a protocol of the board that the
+    /// firmware answers, the only refusal.
     #[inline(always)]
     pub fn effect_of(&self, agent: u32, frame: &Frame) -> Result<Option<Effect>, Refusal>
+        requires agent { IsAgent (length (board_of self.now).agents) agent }
         ensures effect { (h : List Event) → StandsAt self.now h →
             IfOk result (λ effect.
             effect ≡ effect_after (board_of self.now) h (Called agent frame.now)) }
         ensures set { IfOk result (λ effect. effect ≢ None → is_set_frame frame.now ≡ true) }
-        ensures agent { OnOk result (IsAgent (length (board_of self.now).agents) agent) }
-        ensures valid { IsValid (board_of self.now) }
-        ensures no_agent { (result ≡ Err Refusal.NoAgent) ↔ LacksAgent agent self.now }
         ensures other { (result ≡ Err Refusal.Other) ↔ IsOther agent frame.now self.now }
-        ensures errors { IfErr result (λ e. (e ≡ Refusal.NoAgent) ⊎ (e ≡ Refusal.Other)) }
+        ensures errors { IfErr result (λ e. e ≡ Refusal.Other) }
     {
-        self.check_agent(agent)?;
         if !may_change(frame) {
             return if self.is_other(frame) {
                 Err(Refusal::Other)
@@ -110,7 +106,7 @@ impl Held {
         }
         match self.platform.effect_of(agent, frame) {
             Ok(effect) => Ok(effect),
-            Err(_) => Err(Refusal::NoAgent),
+            Err(_) => unreachable!(), // The board has the agent.
         }
     }
 
@@ -120,7 +116,7 @@ impl Held {
         ensures { result ≡ is_other (board_of self.now) frame.now }
     {
         match frame {
-            Frame::Good(message) => is_other(self.platform.board(), message.header),
+            Frame::Good(message) => is_other(self.platform.board(), &message.header),
             Frame::Malformed { .. } => false,
         }
     }
@@ -189,8 +185,7 @@ impl Held {
     {
         match self.platform.command_failed(agent, frame, fault, reply) {
             Ok(()) => count(&mut self.events),
-            // Never, since the board has the agent and there is an effect.
-            Err(_) => {}
+            Err(_) => unreachable!(), // The board has the agent, and there is an effect.
         }
     }
 }
@@ -198,8 +193,8 @@ impl Held {
 /// Whether a message with this header is a command of a protocol of the board that the firmware
 /// answers.
 #[inline(always)]
-fn is_other(board: &Plan, header: Header) -> bool
-    ensures { (m : Message) → m.header ≡ header → result ≡ is_other board.now (Good m) }
+fn is_other(board: &Plan, header: &Header) -> bool
+    ensures { (m : Message) → m.header ≡ header.now → result ≡ is_other board.now (Good m) }
 {
     let protocol = header.protocol();
     !matches!(protocol, BASE_PROTOCOL | POWER_PROTOCOL | CLOCK_PROTOCOL)

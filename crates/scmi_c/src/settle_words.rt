@@ -44,6 +44,7 @@ pub fn commit(desk: &mut Desk, reply: &mut [u32], count: &mut u32) -> Result<(),
         return Err(Refusal::WrongSize);
     }
     let effect = effect_of(&waiting.change);
+    desk.held.stand();
     let _ = desk.held.commit(
         waiting.agent,
         &desk.exchange.frame,

@@ -146,6 +146,7 @@ fn execute(
     ensures unsaid { IsUnsaid held.old held.new agent (frame_in message.now) }
     ensures spared { KeepsSpared (frame_in message.now) held.old held.new }
 {
+    held.stand();
     let _ = held.command(agent, &exchange.frame, &mut exchange.reply);
     *count = put_words(reply, message[0], exchange.reply.payload.as_slice());
 }
@@ -160,19 +161,21 @@ fn read_words(message: &[u32], frame: &mut Frame)
     if let Frame::Malformed { .. } = frame {
         frame.set_empty();
     }
-    if let Frame::Good(own) = frame {
-        own.header = Header::unpack(message[0]);
-        resize(&mut own.payload, message.len() - 1);
-        copy_words(own.payload.as_mut_slice(), &message[1..]);
+    match frame {
+        Frame::Good(own) => {
+            own.header = Header::unpack(message[0]);
+            resize(&mut own.payload, message.len() - 1);
+            copy_words(own.payload.as_mut_slice(), &message[1..]);
+        }
+        Frame::Malformed { .. } => unreachable!(),
     }
 }
 
 /// Writes a message over the first of these words, and gives how many it has.
 pub fn put_message(words: &mut [u32], message: &Message) -> u32
-    ensures count { length message.now.payload.items < length words.old →
-        result ≡ count_of message.now }
-    ensures written { length message.now.payload.items < length words.old →
-        words.new ≡ words_after message.now words.old }
+    requires room { length message.now.payload.items < length words.old }
+    ensures count { result ≡ count_of message.now }
+    ensures written { words.new ≡ words_after message.now words.old }
 {
     put_words(words, message.header.pack(), message.payload.as_slice())
 }
@@ -181,15 +184,12 @@ pub fn put_message(words: &mut [u32], message: &Message) -> u32
 #[inline(always)]
 fn put_words(words: &mut [u32], header: u32, payload: &[u32]) -> u32
     requires few { length payload.now ≤ PAYLOAD_WORDS }
-    ensures count { length payload.now < length words.old → result ≡ 1 + length payload.now }
-    ensures written { length payload.now < length words.old → words.new
+    requires room { length payload.now < length words.old }
+    ensures count { result ≡ 1 + length payload.now }
+    ensures written { words.new
         ≡ (header ∷ payload.now) ++ drop (1 + length payload.now) words.old }
 {
     let count = 1 + payload.len();
-    // Never, since there is room for each reply.
-    if count > words.len() {
-        return 0;
-    }
     words[0] = header;
     copy_words(&mut words[1..count], payload);
     count as u32
@@ -197,6 +197,7 @@ fn put_words(words: &mut [u32], header: u32, payload: &[u32]) -> u32
 
 /// Writes words over as many others. Commands have four at most and most replies three, which take
 /// no loop, and no table of jumps.
+#[inline(always)]
 fn copy_words(to: &mut [u32], from: &[u32])
     requires { length to.old ≡ length from.now }
     ensures { to.new ≡ from.now }
