@@ -43,7 +43,7 @@ APART struct scmi_msg_channel *plat_scmi_get_channel(unsigned int channel_id __u
 }
 
 /* On the thread's own stack. */
-uint32_t scmi_service_on_stack(uintptr_t top __unused, uint32_t (*call)(unsigned int), unsigned int agent)
+uint32_t scmi_service_on_stack(unsigned int agent, uintptr_t top __unused, uint32_t (*call)(unsigned int))
 {
     return call(agent);
 }
@@ -85,7 +85,7 @@ static TEE_Result serve_words(unsigned int agent, const void *in, size_t in_size
     memcpy(copy.message, in, in_size);
     copy.count = in_size / sizeof(copy.message[0]);
     copy.given = 0;
-    execute(agent);
+    execute(agent, &copy);
     if (copy.given == 0)
         return TEE_ERROR_BAD_PARAMETERS;
     *out_size = copy.given * sizeof(copy.reply[0]);

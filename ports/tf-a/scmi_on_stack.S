@@ -1,5 +1,5 @@
 /*
- * uint32_t scmi_service_on_stack(uintptr_t top, uint32_t (*call)(unsigned int), unsigned int agent)
+ * uint32_t scmi_service_on_stack(unsigned int agent, uintptr_t top, uint32_t (*call)(unsigned int))
  *
  * Makes the call on the stack that ends below `top`, which is aligned to 16 bytes, and gives what it gave.
  */
@@ -10,9 +10,8 @@
 func scmi_service_on_stack
 	stp	x29, x30, [sp, #-16]!
 	mov	x29, sp
-	mov	sp, x0
-	mov	w0, w2
-	blr	x1
+	mov	sp, x1
+	blr	x2
 	mov	sp, x29
 	ldp	x29, x30, [sp], #16
 	ret

@@ -25,7 +25,6 @@
 #pragma weak scmi_service_finish
 #pragma weak scmi_service_rate
 #pragma weak scmi_service_outbox
-#pragma weak scmi_service_look
 #pragma weak scmi_service_other
 
 /* A core's stack in BL31 may have 1 KB; making a platform takes 7 KB, and so all is done on a stack of its own. */
@@ -34,7 +33,7 @@
 #endif
 
 /* What the end of that stack holds. */
-#define UNTOUCHED 0x7363616d
+#define UNTOUCHED 0x3c3c3c3c3c3c3c3c
 
 /* Of the flags of an area. */
 enum { WANTS_INTERRUPT = 1 };
@@ -42,6 +41,7 @@ enum { WANTS_INTERRUPT = 1 };
 struct service {
     scmi_platform platform;
     bool is_asked_for; /* the board was asked for, and there is a platform, or never one */
+    bool is_ready;     /* it was, and has no scmi_service_look of its own */
 };
 
 static struct service services[SCMI_SERVICE_PLATFORMS];
@@ -49,6 +49,8 @@ static uint8_t memory[SCMI_SERVICE_PLATFORMS][SCMI_PLATFORM_BYTES(
     SCMI_SERVICE_FIRMWARE, SCMI_PORT_DOMAINS, SCMI_PORT_CLOCKS, SCMI_PORT_RATES, SCMI_PORT_DEVICES)]
     __attribute__((aligned(16)));
 static uint64_t stack[SCMI_PORT_STACK / 8] __attribute__((aligned(16)));
+/* The channels that were made (scmi_smt_init_agent_channel); all others are 0. */
+static scmi_mailbox boxes[SCMI_PORT_AGENTS];
 /* The message that is served, and its reply. */
 static scmi_words copy;
 /* It guards all of the above, and each call of a hook. Interrupts are masked at EL3, so none comes while it is held. */
@@ -58,7 +60,7 @@ CASSERT(SCMI_PORT_AGENTS >= 1 && SCMI_SERVICE_FIRMWARE <= SCMI_SERVICE_MOST_AGEN
 CASSERT(SCMI_PORT_STACK % 16 == 0, scmi_port_stack_is_aligned);
 
 /* Of scmi_on_stack.S: calls on the stack that ends below `top`, and gives what the call gave. */
-uint32_t scmi_service_on_stack(uintptr_t top, uint32_t (*call)(unsigned int), unsigned int agent);
+uint32_t scmi_service_on_stack(unsigned int agent, uintptr_t top, uint32_t (*call)(unsigned int));
 
 /*
  * BL31 is compiled for size, so even what is small is called. What each message goes through is in one piece instead:
@@ -75,7 +77,7 @@ static uint32_t enter(uint32_t (*call)(unsigned int), unsigned int agent)
 
     spin_lock(&lock);
     stack[0] = UNTOUCHED;
-    given = scmi_service_on_stack((uintptr_t)stack + sizeof(stack), call, agent);
+    given = scmi_service_on_stack(agent, (uintptr_t)stack + sizeof(stack), call);
     if (stack[0] != UNTOUCHED) {
         ERROR("SCMI: SCMI_PORT_STACK, %u, is too small\n", SCMI_PORT_STACK);
         panic();
@@ -104,25 +106,13 @@ static bool is_over(const struct scmi_msg_channel *channel, scmi_mailbox *box)
     return channel != NULL && scmi_mailbox_over(box, (void *)channel->shm_addr, channel->shm_size) == SCMI_DONE;
 }
 
-/* A channel that is none any more. */
-static void set_in_error(const struct scmi_msg_channel *channel)
-{
-    scmi_mailbox box = { (scmi_shared_word *)channel->shm_addr, 0 };
-
-    if (channel->shm_addr % 4 == 0 && channel->shm_size > SCMI_AREA_STATUS + 3)
-        scmi_shared_hand_over(&box, SCMI_MAILBOX_FREE_ERROR);
-}
-
-/* The mailbox over an agent's channel. False if the agent has none, or one that is no channel, which is then in error. */
+/* The mailbox over an agent's channel. False if the agent has none. */
 static bool find_box(unsigned int agent, scmi_mailbox *box)
 {
-    const struct scmi_msg_channel *channel = agent < SCMI_PORT_AGENTS ? plat_scmi_get_channel(agent) : NULL;
-
-    if (is_over(channel, box))
-        return true;
-    if (channel != NULL)
-        set_in_error(channel);
-    return false;
+    if (agent >= SCMI_PORT_AGENTS)
+        return false;
+    *box = boxes[agent];
+    return box->words != NULL;
 }
 
 /* Whether each agent's channels are those that its board says: if not, no message of it could be answered whole. */
@@ -157,6 +147,14 @@ static bool all_channels_fit(unsigned int agent)
     return fit;
 }
 
+/* Of hardware that changes nothing by itself. */
+static void nothing_to_see(unsigned int agent_id __unused, scmi_platform *platform __unused,
+                           uint32_t header __unused, uint32_t id __unused)
+{
+}
+void scmi_service_look(unsigned int agent_id, scmi_platform *platform, uint32_t header, uint32_t id)
+    __attribute__((weak, alias("nothing_to_see")));
+
 /* Once: whether there is a platform is then in its handle. */
 static APART uint32_t make(unsigned int agent)
 {
@@ -168,6 +166,7 @@ static APART uint32_t make(unsigned int agent)
     if (service->is_asked_for)
         return platform->at != NULL;
     service->is_asked_for = true;
+    service->is_ready = scmi_service_look == nothing_to_see;
     if (!scmi_header_fits()) {
         ERROR("SCMI: the library is of another version than its headers\n");
         return false;
@@ -192,14 +191,14 @@ static bool made_another_rate(unsigned int agent, const scmi_effect *effect, uin
 }
 
 /* The hardware has made the change of a command. */
-static uint32_t commit(unsigned int agent, const scmi_effect *effect)
+static uint32_t commit(unsigned int agent, scmi_words *words, const scmi_effect *effect)
 {
     scmi_platform *platform = &service_of(agent)->platform;
     uint64_t rate = 0;
 
     if (!made_another_rate(agent, effect, &rate))
-        return scmi_commit_words(platform, copy.reply, SCMI_MESSAGE_WORDS, &copy.given);
-    return scmi_commit_rate_words(platform, copy.reply, SCMI_MESSAGE_WORDS, &copy.given, (uint32_t)rate,
+        return scmi_commit_words(platform, words->reply, SCMI_MESSAGE_WORDS, &words->given);
+    return scmi_commit_rate_words(platform, words->reply, SCMI_MESSAGE_WORDS, &words->given, (uint32_t)rate,
                                   (uint32_t)(rate >> 32));
 }
 
@@ -207,61 +206,74 @@ static uint32_t commit(unsigned int agent, const scmi_effect *effect)
  * Makes the change of a command, and has the library commit to it, or refuse it with the status of the hardware. A
  * number that is none, or says nothing of hardware, is HARDWARE_ERROR.
  */
-static void drive(unsigned int agent, const scmi_effect *effect)
+static void drive(unsigned int agent, scmi_words *words, const scmi_effect *effect)
 {
     scmi_platform *platform = &service_of(agent)->platform;
     int32_t status = scmi_service_drive(agent, effect);
     uint32_t given;
 
     given = status == SCMI_SUCCESS
-                ? commit(agent, effect)
-                : scmi_refuse_words(platform, copy.reply, SCMI_MESSAGE_WORDS, &copy.given, status);
+                ? commit(agent, words, effect)
+                : scmi_refuse_words(platform, words->reply, SCMI_MESSAGE_WORDS, &words->given, status);
     if (given == SCMI_WRONG_STATUS) {
         INFO("SCMI: agent %u: %d of the hardware is answered as HARDWARE_ERROR\n", agent, status);
-        scmi_fail_words(platform, copy.reply, SCMI_MESSAGE_WORDS, &copy.given);
+        scmi_fail_words(platform, words->reply, SCMI_MESSAGE_WORDS, &words->given);
     }
     if (SCMI_PORT_TRACE)
         scmi_trace_change(agent, platform, effect, status == SCMI_SUCCESS);
 }
 
+/* Before a message is executed: there is a platform, if there can be one, and what the hardware changed is reported. */
+static APART void prepare(unsigned int agent, const scmi_words *words)
+{
+    if (make(agent) && words->count > 0)
+        scmi_service_look(agent, &service_of(agent)->platform, words->message[0],
+                          words->count > 1 ? words->message[1] : 0);
+}
+
+/* A command of a protocol that the board has and the library has not. */
+static APART void answer_other(unsigned int agent, scmi_words *words)
+{
+    words->reply[0] = words->message[0];
+    words->given = 1 + scmi_service_other(agent, words->message, words->count, words->reply + 1);
+}
+
 /* Executes the message in the copy. There is no reply if it is malformed, or if the agent has no platform. */
-static void execute(unsigned int agent)
+static void execute(unsigned int agent, scmi_words *words)
 {
     scmi_platform *platform = &service_of(agent)->platform;
     scmi_effect effect;
+    uint32_t given;
 
-    if (copy.count > 0)
-        scmi_service_look(agent, platform, copy.message[0], copy.count > 1 ? copy.message[1] : 0);
-    switch (scmi_ask_words(platform, scmi_service_number(agent), copy.message, copy.count, copy.reply,
-                           SCMI_MESSAGE_WORDS, &copy.given, &effect)) {
-    case SCMI_EFFECT:
-        drive(agent, &effect);
-        break;
-    case SCMI_OTHER:
-        copy.reply[0] = copy.message[0];
-        copy.given = 1 + scmi_service_other(agent, copy.message, copy.count, copy.reply + 1);
-        break;
-    default:
-        break;
-    }
+    if (!service_of(agent)->is_ready)
+        prepare(agent, words);
+    given = scmi_ask_words(platform, scmi_service_number(agent), words->message, words->count, words->reply,
+                           SCMI_MESSAGE_WORDS, &words->given, &effect);
+    if (given == SCMI_DONE)
+        return;
+    if (given == SCMI_EFFECT)
+        drive(agent, words, &effect);
+    else if (given == SCMI_OTHER)
+        answer_other(agent, words);
 }
 
-/* Whether a message was answered whose agent wants an interrupt. */
+/* The flags of the message that was answered; 0 if there was none. */
 static IN_ONE_PIECE uint32_t serve(unsigned int agent)
 {
+    scmi_words *words = &copy;
     scmi_mailbox box;
     uint32_t flags;
 
-    if (!find_box(agent, &box) || scmi_mailbox_take_words(&box, &copy) != SCMI_DONE)
-        return false;
-    flags = scmi_shared_load(&box, SCMI_AT_FLAGS);
-    if (!service_of(agent)->is_asked_for)
-        make(agent);
-    execute(agent);
+    /* In a register from here on: a compiler for size would make the address anew at each use. */
+    __asm__("" : "+r"(words));
+    if (!find_box(agent, &box) || scmi_mailbox_take_words(&box, words) != SCMI_DONE)
+        return 0;
+    execute(agent, words);
     if (SCMI_PORT_TRACE)
-        scmi_trace_answer(agent, &copy);
-    scmi_mailbox_answer_words(&box, &copy);
-    return (flags & WANTS_INTERRUPT) != 0;
+        scmi_trace_answer(agent, words);
+    flags = scmi_shared_load(&box, SCMI_AT_FLAGS);
+    scmi_mailbox_answer_words(&box, words);
+    return flags;
 }
 
 /* Before a set ends: the rate that it gives a free clock. Other clocks have it as it was asked for. */
@@ -404,7 +416,7 @@ bool scmi_service_bring_up(unsigned int agent_id, scmi_platform *platform)
 
 IN_ONE_PIECE bool scmi_service_serve(unsigned int agent_id)
 {
-    return enter(serve, agent_id) != 0;
+    return (enter(serve, agent_id) & WANTS_INTERRUPT) != 0;
 }
 
 void scmi_smt_fastcall_smc_entry(unsigned int agent_id)
@@ -445,12 +457,6 @@ APART bool scmi_service_rate(unsigned int agent_id __unused, uint32_t clock __un
     return false;
 }
 
-/* Of hardware that changes nothing by itself. */
-APART void scmi_service_look(unsigned int agent_id __unused, scmi_platform *platform __unused,
-                             uint32_t header __unused, uint32_t id __unused)
-{
-}
-
 /* Of a platform without protocols of its own. */
 APART uint32_t scmi_service_other(unsigned int agent_id __unused, uint32_t *message __unused,
                                   uint32_t count __unused, uint32_t *words)
@@ -489,5 +495,6 @@ void scmi_smt_init_agent_channel(struct scmi_msg_channel *chan)
         ERROR("SCMI: a channel belongs to none of SCMI_PORT_AGENTS, %u\n", SCMI_PORT_AGENTS);
         panic();
     }
+    boxes[agent_of(chan)] = box;
     scmi_service_restart(agent_of(chan));
 }

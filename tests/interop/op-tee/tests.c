@@ -295,18 +295,16 @@ static void bad_channels(void)
     }
 }
 
-static void areas_that_are_none(void)
+static void areas_that_are_moved(void)
 {
     uint32_t area[LINUX_BYTES / 4] = { [LENGTH] = 4, [HEADER] = 0x4000 };
-    unsigned int before = drives;
+    uint32_t before[LINUX_BYTES / 4];
 
-    check_part("areas that have become none");
-    move_area(LINUX, (uintptr_t)area + 2, LINUX_BYTES);
-    check_word("an odd address", send_area(LINUX), BAD_PARAMETERS);
-    move_area(LINUX, (uintptr_t)area, MODEM_BYTES - 1);
-    check_word("too small", send_area(LINUX), BAD_PARAMETERS);
-    check_word("  and free", area[STATUS], CHANNEL_ERROR);
-    check_true("  and nothing is executed", drives == before);
+    check_part("areas that are moved");
+    memcpy(before, area, sizeof(before));
+    move_area(LINUX, (uintptr_t)area, LINUX_BYTES);
+    check_word("the area is the one that was made, and free", send_area(LINUX), NO_DATA);
+    check_true("  and nothing is written to the other", memcmp(before, area, sizeof(before)) == 0);
     move_area(LINUX, (uintptr_t)areas[LINUX], LINUX_BYTES);
 }
 
@@ -341,7 +339,7 @@ static void served(void)
     bad_lengths();
     free_areas();
     bad_channels();
-    areas_that_are_none();
+    areas_that_are_moved();
     values_are("values after all", 0x40000000, 1500000000, 500000000, 1);
 }
 

@@ -20,7 +20,7 @@ static unsigned int failed_here;
 void console_flush(void);
 void el3_panic(void);
 void tf_log(const char *format, ...);
-uint32_t scmi_service_on_stack(uintptr_t top, uint32_t (*call)(unsigned int), unsigned int agent);
+uint32_t scmi_service_on_stack(unsigned int agent, uintptr_t top, uint32_t (*call)(unsigned int));
 
 void console_flush(void) { }
 void el3_panic(void) { _exit(PANIC); }
@@ -49,7 +49,7 @@ void spin_unlock(spinlock_t *lock)
     lock->lock = 0;
 }
 
-uint32_t scmi_service_on_stack(uintptr_t top, uint32_t (*call)(unsigned int), unsigned int agent)
+uint32_t scmi_service_on_stack(unsigned int agent, uintptr_t top, uint32_t (*call)(unsigned int))
 {
     uint32_t given = call(agent);
 

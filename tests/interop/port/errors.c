@@ -278,18 +278,17 @@ static void with_another_library_there_is_no_platform(void)
     says("SCMI: the library is of another version than its headers\n");
 }
 
-static void a_channel_that_shrinks_is_in_error(void)
+static void a_channel_is_as_it_was_made(void)
 {
-    init();
+    scmi_smt_init_agent_channel(&channels[0]);
     check("it is served", version(0) == 0);
-    channels[0].shm_size = 59;
-    check("a channel error, and free", version(0) == 1);
+    check("one that was not made is not", version(1) == 2);
     channels[0].shm_size = 4;
-    check("nothing is written behind it", version(0) == 2);
-    channel_of[0] = NULL;
-    check("there is none", version(0) == 2);
-    channel_of[0] = &channels[0];
+    check("the platform's row is not read with each message", version(0) == 0);
+    check("a message that it has room for is read", ask(0, VERSION, 9, NULL) == SCMI_PROTOCOL_ERROR);
     channels[0].shm_size = 60;
+    scmi_smt_init_agent_channel(&channels[0]);
+    check("made again it has less room", ask(0, VERSION, 9, NULL) == 1);
     check("a reply is as long as there is room for", of(ATTRIBUTES, 0) == 0);
     scmi_smt_fastcall_smc_entry(9);
     scmi_service_restart(9);
@@ -536,7 +535,7 @@ static const struct test tests[] = {
     { "without room for rates there is no platform", without_room_for_rates_there_is_no_platform, 0 },
     { "without memory there is no platform", without_memory_there_is_no_platform, 0 },
     { "with a library of another version there is no platform", with_another_library_there_is_no_platform, 0 },
-    { "a channel that shrinks is in error", a_channel_that_shrinks_is_in_error, 0 },
+    { "a channel is as it was made", a_channel_is_as_it_was_made, 0 },
     { "no channel at all ends the start", no_channel_at_all_ends_the_start, PANIC },
     { "a channel that is too small ends the start", a_channel_that_is_too_small_ends_the_start, PANIC },
     { "a channel that is not aligned ends the start", a_channel_that_is_not_aligned_ends_the_start, PANIC },

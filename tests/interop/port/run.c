@@ -36,7 +36,7 @@ void tf_log(const char *format, ...);
 void console_flush(void);
 void el3_panic(void);
 unsigned int plat_my_core_pos(void);
-uint32_t scmi_service_on_stack(uintptr_t top, uint32_t (*call)(unsigned int), unsigned int agent);
+uint32_t scmi_service_on_stack(unsigned int agent, uintptr_t top, uint32_t (*call)(unsigned int));
 
 static struct {
     uintptr_t at;
@@ -78,7 +78,7 @@ void tf_log(const char *format, ...)
 }
 
 #ifdef ON_HOST
-uint32_t scmi_service_on_stack(uintptr_t top, uint32_t (*call)(unsigned int), unsigned int agent)
+uint32_t scmi_service_on_stack(unsigned int agent, uintptr_t top, uint32_t (*call)(unsigned int))
 {
     (void)top;
     return call(agent);
