@@ -9,7 +9,7 @@ ghost use Rattle.scmi_c.specs.Driven.{IsUnsaid};
 ghost use Rattle.scmi_c.specs.Standing.{LacksAgent, StandsAt, board_of};
 ghost use Rattle.scmi_c.specs.declared.code.TheConstants.{ASKED, DONE, NOTHING, MEMORY, NO_AGENT, NOT_FREE, NO_PLATFORM, WRONG_SIZE};
 
-use crate::area::{answer, post_next};
+use crate::area::{answer_sized, post_next};
 use crate::code::{DONE, NO_PLATFORM, code};
 use crate::desk::Desk;
 use crate::handle::Handle;
@@ -51,12 +51,8 @@ pub extern "C" fn scmi_answer_in(
         Ok(desk) => desk,
         Err(number) => return number,
     };
-    if let Err(refusal) = desk.held.check_size(agent, area.len()) {
-        platform.put(desk);
-        return code(Err(refusal));
-    }
     let seat: &mut Desk = &mut desk;
-    let given = answer(&mut seat.held, &mut seat.exchange, agent, area);
+    let given = answer_sized(&mut seat.held, &mut seat.exchange, agent, area);
     platform.put(desk);
     code(given)
 }

@@ -14,9 +14,9 @@ ghost use Rattle.scmi_c.specs.Aside.{IsHeldBackAt, IsMarked, KeepsSpared};
 ghost use Rattle.scmi_c.specs.Kept.{AreAskable, aside_by};
 ghost use Rattle.scmi_c.specs.Standing.{LacksAgent, StandsAt, board_of};
 ghost use Rattle.scmi_c.specs.Calls.{HasAnswered, HasPosted, HasNext, IsAskedAbout, LacksNext};
-ghost use Rattle.scmi_c.specs.Channel.{IsAreaOf};
+ghost use Rattle.scmi_c.specs.Channel.{HasAnotherSize, HasSize, IsAreaOf, IsFreeOf};
 ghost use Rattle.scmi_c.specs.Driven.{Drives, IsUnsaid};
-ghost use Rattle.scmi_c.specs.Other.{IsOther};
+ghost use Rattle.scmi_c.specs.Other.{IsOther, is_other};
 
 use crate::aside::Aside;
 use crate::desk::Exchange;
@@ -68,6 +68,34 @@ pub fn answer(
     held.check_agent(agent)?;
     execute(held, exchange, agent, area);
     Ok(())
+}
+
+/// As `answer`, of an area of the size of the agent's channel. `NoAgent`, and `WrongSize` if the
+/// area has another size, come before all else, in this order.
+#[inline(always)]
+pub fn answer_sized(
+    held: &mut Held,
+    exchange: &mut Exchange,
+    agent: u32,
+    area: &mut [u8],
+) -> Result<(), Refusal>
+    ensures ok { OnOk result
+        (IsSomeAnd
+        (channel_waiting area.old)
+        (λ frame. HasAnswered held.old held.new agent frame area.old area.new)) }
+    ensures unsaid { OnOk result (IsSomeAnd (channel_waiting area.old) (λ frame.
+        IsUnsaid held.old held.new agent frame)) }
+    ensures free { (result ≡ Err Refusal.Nothing) ↔ IsFreeOf agent area.old held.old }
+    ensures no_agent { (result ≡ Err Refusal.NoAgent) ↔ LacksAgent agent held.old }
+    ensures wrong_size { (result ≡ Err Refusal.WrongSize)
+        ↔ HasAnotherSize agent (length area.old) held.old }
+    ensures errors { IfErr result (λ e.
+        (e ≡ Refusal.Nothing) ⊎ (e ≡ Refusal.NoAgent) ⊎ (e ≡ Refusal.WrongSize)) }
+    ensures err { OnErr result (held.new ≡ held.old) }
+    ensures kept { OnErr result (area.new ≡ area.old) }
+{
+    held.check_size(agent, area.len())?;
+    answer(held, exchange, agent, area)
 }
 
 /// Executes the frame that was read from an agent's area, and writes the answer over it.
@@ -155,6 +183,53 @@ pub fn ask(
         execute(held, exchange, agent, area);
     }
     Ok(effect)
+}
+
+/// As `ask`, of an area of the size of the agent's channel. `NoAgent`, and `WrongSize` if the area
+/// has another size, come before all else, in this order.
+#[inline(always)]
+pub fn ask_sized(
+    held: &mut Held,
+    exchange: &mut Exchange,
+    aside: &Aside,
+    agent: u32,
+    area: &mut [u8],
+) -> Result<Option<Effect>, Refusal>
+    requires { IsMarked aside.now }
+    ensures effect { IfOk result (λ effect. IsSomeAnd (channel_waiting area.old) (λ frame.
+        (h : List Event) → StandsAt held.old h →
+        effect ≡ effect_after (board_of held.old) h (Called agent frame))) }
+    ensures size { OnOk result (HasSize agent (length area.old) held.old) }
+    ensures answered { result ≡ Ok None → IsSomeAnd (channel_waiting area.old) (λ frame.
+        HasAnswered held.old held.new agent frame area.old area.new) }
+    ensures driven { result ≡ Ok None → IsSomeAnd (channel_waiting area.old) (λ frame.
+        Drives held.old held.new (Called agent frame)) }
+    ensures asked { IfOk result (λ effect. effect ≢ None →
+        (channel_waiting area.old ≡ Some exchange.new.frame) × (area.new ≡ area.old)
+        × IsAskedAbout held.old held.new agent) }
+    ensures apart { IfOk result (λ effect. effect ≢ None →
+        aside_by aside.now.slots agent ≡ None) }
+    ensures aside { AreAskable held.old (aside_by aside.now.slots) →
+        AreAskable held.new (aside_by aside.now.slots) }
+    ensures held_back { (result ≡ Err Refusal.Asked)
+        ↔ (HasSize agent (length area.old) held.old × IsSomeAnd (channel_waiting area.old)
+        (IsHeldBackAt held.old (aside_by aside.now.slots) agent)) }
+    ensures no_frame { (result ≡ Err Refusal.NoFrame) ↔ IsFreeOf agent area.old held.old }
+    ensures no_agent { (result ≡ Err Refusal.NoAgent) ↔ LacksAgent agent held.old }
+    ensures wrong_size { (result ≡ Err Refusal.WrongSize)
+        ↔ HasAnotherSize agent (length area.old) held.old }
+    ensures other { (result ≡ Err Refusal.Other)
+        ↔ (HasSize agent (length area.old) held.old
+        × IsSomeAnd (channel_waiting area.old) (λ frame.
+        (is_other (board_of held.old) frame ≡ true)
+        × (¬ (IsHeldBackAt held.old (aside_by aside.now.slots) agent frame)))) }
+    ensures errors { IfErr result (λ e. (e ≡ Refusal.NoFrame) ⊎ (e ≡ Refusal.NoAgent) ⊎
+        (e ≡ Refusal.WrongSize) ⊎ (e ≡ Refusal.Asked) ⊎ (e ≡ Refusal.Other)) }
+    ensures err { OnErr result (held.new ≡ held.old) }
+    ensures kept { OnErr result (area.new ≡ area.old) }
+{
+    held.check_size(agent, area.len())?;
+    ask(held, exchange, aside, agent, area)
 }
 
 /// Writes the first message of an agent's outbox into an area, as a caller posts it. `NoAgent` if

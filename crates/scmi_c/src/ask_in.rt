@@ -14,7 +14,7 @@ ghost use Rattle.scmi_c.specs.Channel.{HasAnotherSize, HasSize, IsFreeOf};
 ghost use Rattle.scmi_c.specs.Other.{is_other};
 ghost use Rattle.scmi_c.specs.declared.code.TheConstants.{ASKED, DONE, EFFECT, NO_AGENT, NO_PLATFORM, NO_FRAME, OTHER, WRONG_SIZE};
 
-use crate::area::ask;
+use crate::area::ask_sized;
 use crate::code::{DONE, EFFECT, code};
 use crate::desk::Desk;
 use crate::effect::{EffectNumbers, put_numbers};
@@ -84,12 +84,8 @@ pub extern "C" fn scmi_ask_in(
         Ok(desk) => desk,
         Err(number) => return number,
     };
-    if let Err(refusal) = desk.held.check_size(agent, area.len()) {
-        platform.put(desk);
-        return code(Err(refusal));
-    }
     let seat: &mut Desk = &mut desk;
-    let given = ask(&mut seat.held, &mut seat.exchange, &seat.aside, agent, area);
+    let given = ask_sized(&mut seat.held, &mut seat.exchange, &seat.aside, agent, area);
     if let Ok(Some(change)) = given {
         seat.waiting.begin(agent, area.len(), change);
         put_numbers(change, effect);

@@ -35,7 +35,9 @@ impl Held {
         ensures errors { IfErr result (λ e. (e ≡ Refusal.NoAgent) ⊎ (e ≡ Refusal.WrongSize)) }
     {
         let most = self.channel(agent)?.words as usize;
-        if words < 1 || words > 1 + most || room < 1 + most {
+        // Without a header word this is more than any channel has.
+        let payload = words.wrapping_sub(1);
+        if payload > most || room <= most {
             return Err(Refusal::WrongSize);
         }
         Ok(())
@@ -158,6 +160,24 @@ fn read_words(message: &[u32], frame: &mut Frame)
     requires few { length message.now ≤ 1 + PAYLOAD_WORDS }
     ensures { frame.new ≡ frame_in message.now }
 {
+    if let Frame::Good(own) = frame {
+        // Most commands have as many words as the one before.
+        if own.payload.len() == message.len() - 1 {
+            own.header = Header::unpack(message[0]);
+            copy_words(own.payload.as_mut_slice(), &message[1..]);
+            return;
+        }
+    }
+    read_others(message, frame);
+}
+
+/// As `read_words`, whatever is in the frame.
+#[inline(never)]
+fn read_others(message: &[u32], frame: &mut Frame)
+    requires some { 1 ≤ length message.now }
+    requires few { length message.now ≤ 1 + PAYLOAD_WORDS }
+    ensures { frame.new ≡ frame_in message.now }
+{
     if let Frame::Malformed { .. } = frame {
         frame.set_empty();
     }
@@ -191,18 +211,27 @@ fn put_words(words: &mut [u32], header: u32, payload: &[u32]) -> u32
 {
     let count = 1 + payload.len();
     words[0] = header;
-    copy_words(&mut words[1..count], payload);
+    // Most replies are a status and a word.
+    if count == 3 {
+        words[1] = payload[0];
+        words[2] = payload[1];
+    } else {
+        copy_words(&mut words[1..count], payload);
+    }
     count as u32
 }
 
-/// Writes words over as many others. Commands have four at most and most replies three, which take
-/// no loop, and no table of jumps.
+/// Writes words over as many others. Most commands have one payload word or none, and none has
+/// more than four; up to four take no loop, and no table of jumps.
 #[inline(always)]
 fn copy_words(to: &mut [u32], from: &[u32])
     requires { length to.old ≡ length from.now }
     ensures { to.new ≡ from.now }
 {
     let count = from.len();
+    if count == 0 {
+        return;
+    }
     if count > 2 {
         if count > 4 {
             copy_many(to, from);
@@ -214,9 +243,6 @@ fn copy_words(to: &mut [u32], from: &[u32])
         if count == 4 {
             to[3] = from[3];
         }
-        return;
-    }
-    if count == 0 {
         return;
     }
     to[0] = from[0];

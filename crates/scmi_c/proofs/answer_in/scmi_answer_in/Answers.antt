@@ -8,4 +8,4 @@ invariant_of-seat c =
     let inside = c.seat.inside in
     let view : Kept = record { held = inside.held; asked = asked_by inside.exchange.frame inside.waiting; aside = inside.aside.slots } in
     let free : IsFree view = subst IsFree (sym (c.seat.view_is ∙ c.deref_mut-seat.ensures.value)) c.in-Ok.ensures.free in
-    (free-kept c.answer-given.new.held inside.exchange.frame c.answer-given.new.exchange.frame inside.waiting inside.aside.slots free.unasked free.none, c.seat.invariant.1)
+    (free-kept c.answer_sized-given.new.held inside.exchange.frame c.answer_sized-given.new.exchange.frame inside.waiting inside.aside.slots free.unasked free.none, c.seat.invariant.1)

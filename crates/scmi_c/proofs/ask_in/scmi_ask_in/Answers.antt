@@ -1,6 +1,5 @@
-use Rattle.std.proofs.Common.{rules, true, ◌≡◌, ◌≢◌, inl, inr, List, length, Option, Some, None, Ok, IsSomeAnd, subst, sym, ap, ◌∙◌, arith}
+use Rattle.std.proofs.Common.{rules, true, ◌≡◌, ◌≢◌, List, length, Option, Some, None, Ok, IsSomeAnd, subst, sym, ap, ◌∙◌, arith}
 use Rattle.scmi_codec.specs.ChannelArea.{channel_waiting}
-use Rattle.scmi_codec.specs.declared.frame.Frame.{Frame}
 use Rattle.scmi_plan.specs.Board.{channel_of}
 use Rattle.scmi_plan.specs.declared.effect.Effect.{Effect}
 use Rattle.scmi_core.proofs.Room.{valid_channel}
@@ -11,39 +10,32 @@ use Rattle.scmi_c.specs.Aside.{IsHeldBack}
 use Rattle.scmi_c.specs.Calls.{ChangesNothing, IsAskedAbout}
 use Rattle.scmi_c.specs.Channel.{HasSize}
 use Rattle.scmi_c.specs.Kept.{IsUnasked, Kept, aside_by, asked_by}
-use Rattle.scmi_c.specs.Other.{IsOther, is_other}
-use Rattle.scmi_c.specs.Standing.{LacksAgent, StandsAt, board_of}
-use Rattle.scmi_c.specs.declared.refusal.Refusal.TheVariants.{NoAgent, Other}
+use Rattle.scmi_c.specs.Other.{is_other}
+use Rattle.scmi_c.specs.Standing.{StandsAt, board_of}
+use Rattle.scmi_c.specs.declared.refusal.Refusal.TheVariants.{Other}
 use Rattle.scmi_c.proofs.Areas.{sized}
-use Rattle.scmi_c.proofs.Codes.{coded, coded-unasked, held-back}
-use Rattle.scmi_c.proofs.Keeping.{askable, asked-kept, of-effect, plain-kept, some-map}
+use Rattle.scmi_c.proofs.Codes.{coded, held-back}
+use Rattle.scmi_c.proofs.Keeping.{askable, asked-kept, of-effect, some-map}
 use Rattle.scmi_c.proofs.ask_in.scmi_ask_in.Goals as goal
 
 pub invariant_of-seat : goal.invariant_of-seat
 invariant_of-seat c =
     let held = c.seat.inside.held in
     let slots = c.seat.inside.aside.slots in
-    let about : IsAskedAbout held c.ask-given.new.held c.args.agent = search rules in
+    let about : IsAskedAbout held c.ask_sized-given.new.held c.args.agent = search rules in
     let valid = valid_channel (board_of held) c.args.agent about.valid in
     let size : HasSize c.args.agent (length c.args.area.now) held = search rules in
-    let same : length c.ask-given.new.area ≡ length c.args.area.now = search rules in
-    let two = sized (channel_of (board_of held) c.args.agent).words (length c.ask-given.new.area) valid.0 valid.1 (same ∙ size.1) in
-    let is : c.ask-given.result ≡ Ok (Some c.in-Ok-Some.change) = search rules in
+    let same : length c.ask_sized-given.new.area ≡ length c.args.area.now = search rules in
+    let two = sized (channel_of (board_of held) c.args.agent).words (length c.ask_sized-given.new.area) valid.0 valid.1 (same ∙ size.1) in
+    let is : c.ask_sized-given.result ≡ Ok (Some c.in-Ok-Some.change) = search rules in
     let effect =
     of-effect (λ (effect : Option Effect). IsSomeAnd (channel_waiting c.args.area.now) (λ frame. (h : List Event) → StandsAt held h → effect ≡ effect_after (board_of held) h (Called c.args.agent frame)))
-    c.ask-given.result (Some c.in-Ok-Some.change) is c.ask-given.ensures.effect in
-    let free = of-effect (λ (effect : Option Effect). effect ≢ None → aside_by slots c.args.agent ≡ None) c.ask-given.result (Some c.in-Ok-Some.change) is c.ask-given.ensures.apart (λ none. absurd (cc)) in
+    c.ask_sized-given.result (Some c.in-Ok-Some.change) is c.ask_sized-given.ensures.effect in
+    let free = of-effect (λ (effect : Option Effect). effect ≢ None → aside_by slots c.args.agent ≡ None) c.ask_sized-given.result (Some c.in-Ok-Some.change) is c.ask_sized-given.ensures.apart (λ none. absurd (cc)) in
     let asked =
-    askable held c.ask-given.new.held c.args.agent (length c.ask-given.new.area) c.ask-given.new.exchange.frame (channel_waiting c.args.area.now) c.in-Ok-Some.change
+    askable held c.ask_sized-given.new.held c.args.agent (length c.ask_sized-given.new.area) c.ask_sized-given.new.exchange.frame (channel_waiting c.args.area.now) c.in-Ok-Some.change
     c.begin.new.self about (search rules) effect c.begin.ensures.asked c.begin.ensures.agent c.begin.ensures.bytes c.begin.ensures.change two.0 (omega (arith, two.1)) in
-    (asked-kept c.ask-given.new.held c.ask-given.new.exchange.frame c.begin.new.self slots c.args.agent asked (c.ask-given.ensures.aside c.seat.invariant.0.aside) c.begin.ensures.agent free, c.seat.invariant.1)
-
-pub invariant_of-seat-in_default-given : goal.invariant_of-seat-in_default-given
-invariant_of-seat-in_default-given c =
-    let inside = c.seat.inside in
-    let view : Kept = record { held = inside.held; asked = asked_by inside.exchange.frame inside.waiting; aside = inside.aside.slots } in
-    let free : IsUnasked view = subst IsUnasked (sym (c.seat.view_is ∙ c.deref_mut-seat.ensures.value)) c.in-Ok.ensures.unasked in
-    (plain-kept c.ask-given.new.held inside.exchange.frame c.ask-given.new.exchange.frame inside.waiting inside.aside.slots free (c.ask-given.ensures.aside c.seat.invariant.0.aside), c.seat.invariant.1)
+    (asked-kept c.ask_sized-given.new.held c.ask_sized-given.new.exchange.frame c.begin.new.self slots c.args.agent asked (c.ask_sized-given.ensures.aside c.seat.invariant.0.aside) c.begin.ensures.agent free, c.seat.invariant.1)
 
 pub returns-in-Ok-None-clause-nothing : goal.returns-in-Ok-None-clause-nothing
 returns-in-Ok-None-clause-nothing c = λ done.
@@ -52,10 +44,10 @@ returns-in-Ok-None-clause-nothing c = λ done.
     let view : Kept = record { held = held; asked = asked_by inside.exchange.frame inside.waiting; aside = inside.aside.slots } in
     let same : view ≡ c.in-Ok.desk.value = c.seat.view_is ∙ c.deref_mut-seat.ensures.value in
     let size : HasSize c.args.agent (length c.args.area.now) held = search rules in
-    let is : c.ask-given.result ≡ Ok None = search rules in
+    let is : c.ask_sized-given.result ≡ Ok None = search rules in
     let effect =
     of-effect (λ (effect : Option Effect). IsSomeAnd (channel_waiting c.args.area.now) (λ frame. (h : List Event) → StandsAt held h → effect ≡ effect_after (board_of held) h (Called c.args.agent frame)))
-    c.ask-given.result None is c.ask-given.ensures.effect in
+    c.ask_sized-given.result None is c.ask_sized-given.ensures.effect in
     subst (λ (o : Option Kept). IsSomeAnd o (λ p. IsSomeAnd (channel_waiting c.args.area.now) (λ frame. (h : List Event) → StandsAt p.held h → ChangesNothing (board_of p.held) c.args.agent frame h)))
     (sym (c.in-Ok.ensures.taken ∙ ap (λ (k : Kept). Some k) (sym same)))
     (some-map (channel_waiting c.args.area.now) (λ frame. (h : List Event) → StandsAt held h → None ≡ effect_after (board_of held) h (Called c.args.agent frame))
@@ -66,43 +58,17 @@ returns-in-Err-given-clause-asked c =
     let inside = c.seat.inside in
     let view : Kept = record { held = inside.held; asked = asked_by inside.exchange.frame inside.waiting; aside = inside.aside.slots } in
     let same : view ≡ c.in-Ok.desk.value = c.seat.view_is ∙ c.deref_mut-seat.ensures.value in
-    let size : HasSize c.args.agent (length c.args.area.now) inside.held = search rules in
-    held-back c.args.platform.now.value view (λ p. HasSize c.args.agent (length c.args.area.now) p.held × IsSomeAnd (channel_waiting c.args.area.now) (IsHeldBack p c.args.agent)) c.code-in-Err-given.result
-    c.ask-given.result c.in-Err-given.refusal (c.in-Ok.ensures.taken ∙ ap (λ (k : Kept). Some k) (sym same)) (subst IsUnasked (sym same) c.in-Ok.ensures.unasked) (search rules) c.code-in-Err-given.ensures
-    (λ err. (size, c.ask-given.ensures.held_back.0 err), λ both. c.ask-given.ensures.held_back.1 both.1)
-
-pub returns-in-Err-given-clause-no_agent : goal.returns-in-Err-given-clause-no_agent
-returns-in-Err-given-clause-no_agent c =
-    let inside = c.seat.inside in
-    let view : Kept = record { held = inside.held; asked = asked_by inside.exchange.frame inside.waiting; aside = inside.aside.slots } in
-    let same : view ≡ c.in-Ok.desk.value = c.seat.view_is ∙ c.deref_mut-seat.ensures.value in
-    let size : HasSize c.args.agent (length c.args.area.now) inside.held = search rules in
-    coded-unasked c.args.platform.now.value view (λ p. LacksAgent c.args.agent p.held)
-    c.code-in-Err-given.result c.ask-given.result c.in-Err-given.refusal NoAgent
-    (c.in-Ok.ensures.taken ∙ ap (λ (k : Kept). Some k) (sym same))
-    (subst IsUnasked (sym same) c.in-Ok.ensures.unasked) (search rules)
-    c.code-in-Err-given.ensures (
-      λ err. (c.ask-given.ensures.no_agent.0 err).1,
-      λ lacks. absurd (elim lacks [
-        | inl none ↦ omega (arith, size.0.0, none)
-        | inr above ↦ omega (arith, size.0.1, above)
-      ]),
-    )
+    held-back c.args.platform.now.value view (λ p. HasSize c.args.agent (length c.args.area.now) p.held × IsSomeAnd (channel_waiting c.args.area.now) (IsHeldBack p c.args.agent)) c.code.result
+    c.ask_sized-given.result c.in-Err-given.refusal (c.in-Ok.ensures.taken ∙ ap (λ (k : Kept). Some k) (sym same)) (subst IsUnasked (sym same) c.in-Ok.ensures.unasked) (search rules) c.code.ensures c.ask_sized-given.ensures.held_back
 
 pub returns-in-Err-given-clause-other : goal.returns-in-Err-given-clause-other
 returns-in-Err-given-clause-other c =
     let inside = c.seat.inside in
     let view : Kept = record { held = inside.held; asked = asked_by inside.exchange.frame inside.waiting; aside = inside.aside.slots } in
     let same : view ≡ c.in-Ok.desk.value = c.seat.view_is ∙ c.deref_mut-seat.ensures.value in
-    let size : HasSize c.args.agent (length c.args.area.now) inside.held = search rules in
-    let P : Frame → Type 0 = λ frame. IsOther c.args.agent frame view.held × (¬ (IsHeldBack view c.args.agent frame)) in
-    let Q : Frame → Type 0 = λ frame. (is_other (board_of view.held) frame ≡ true) × (¬ (IsHeldBack view c.args.agent frame)) in
     let free : IsUnasked view = subst IsUnasked (sym same) c.in-Ok.ensures.unasked in
     coded c.args.platform.now.value view
-    (λ p. IsUnasked p × HasSize c.args.agent (length c.args.area.now) p.held × IsSomeAnd (channel_waiting c.args.area.now) (λ frame. (is_other (board_of p.held) frame ≡ true) × (¬ (IsHeldBack p c.args.agent frame)))) c.code-in-Err-given.result
-    c.ask-given.result c.in-Err-given.refusal Other
-    (c.in-Ok.ensures.taken ∙ ap (λ (k : Kept). Some k) (sym same)) (search rules)
-    c.code-in-Err-given.ensures (
-      λ err. (free, size, some-map (channel_waiting c.args.area.now) P Q (λ frame both. (both.0.1, both.1)) (c.ask-given.ensures.other.0 err)),
-      λ all. c.ask-given.ensures.other.1 (some-map (channel_waiting c.args.area.now) Q P (λ frame two. ((size.0, two.0), two.1)) all.2),
-    )
+    (λ p. IsUnasked p × HasSize c.args.agent (length c.args.area.now) p.held × IsSomeAnd (channel_waiting c.args.area.now) (λ frame. (is_other (board_of p.held) frame ≡ true) × (¬ (IsHeldBack p c.args.agent frame)))) c.code.result
+    c.ask_sized-given.result c.in-Err-given.refusal Other
+    (c.in-Ok.ensures.taken ∙ ap (λ (k : Kept). Some k) (sym same)) (search rules) c.code.ensures
+    (λ err. let it = c.ask_sized-given.ensures.other.0 err in (free, it.0, it.1), λ all. c.ask_sized-given.ensures.other.1 (all.1, all.2))
