@@ -74,22 +74,23 @@ static bool is_served(unsigned int agent, scmi_channel_numbers *channel)
 /* The normal world may write into both buffers at any time, and they may be the same. */
 static TEE_Result serve_words(unsigned int agent, const void *in, size_t in_size, void *out, size_t *out_size)
 {
+    scmi_words *words = &state.copy;
     scmi_channel_numbers channel;
 
     if (!is_served(agent, &channel))
         return TEE_ERROR_BAD_STATE;
-    if (in_size % sizeof(copy.message[0]) != 0 || in_size > sizeof(copy.message))
+    if (in_size % sizeof(words->message[0]) != 0 || in_size > sizeof(words->message))
         return TEE_ERROR_BAD_PARAMETERS;
     if (*out_size < channel.bytes - AREA_HEAD)
         return TEE_ERROR_SHORT_BUFFER;
-    memcpy(copy.message, in, in_size);
-    copy.count = in_size / sizeof(copy.message[0]);
-    copy.given = 0;
-    execute(agent, &copy);
-    if (copy.given == 0)
+    memcpy(words->message, in, in_size);
+    words->count = in_size / sizeof(words->message[0]);
+    words->given = 0;
+    execute(agent, service_of(agent), words);
+    if (words->given == 0)
         return TEE_ERROR_BAD_PARAMETERS;
-    *out_size = copy.given * sizeof(copy.reply[0]);
-    memcpy(out, copy.reply, *out_size);
+    *out_size = words->given * sizeof(words->reply[0]);
+    memcpy(out, words->reply, *out_size);
     return TEE_SUCCESS;
 }
 
@@ -100,9 +101,9 @@ TEE_Result scmi_server_msg_process_thread(unsigned int channel_id, void *in_buf,
 
     if (result != TEE_SUCCESS)
         return result;
-    spin_lock(&lock);
+    spin_lock(&state.lock);
     result = serve_words(channel_id, in_buf, in_size, out_buf, out_size);
-    spin_unlock(&lock);
+    spin_unlock(&state.lock);
     return result;
 }
 
@@ -110,12 +111,12 @@ static uint32_t serve_area(unsigned int agent)
 {
     scmi_mailbox box;
 
-    if (!find_box(agent, &box))
+    if (!find_box(&state, agent, &box))
         return TEE_ERROR_BAD_PARAMETERS;
     if (scmi_mailbox_is_free(&box))
         return TEE_ERROR_NO_DATA;
     serve(agent);
-    return copy.given == 0 ? TEE_ERROR_COMMUNICATION : TEE_SUCCESS;
+    return state.copy.given == 0 ? TEE_ERROR_COMMUNICATION : TEE_SUCCESS;
 }
 
 TEE_Result scmi_server_smt_process_thread(unsigned int channel_id)

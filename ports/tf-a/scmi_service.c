@@ -44,17 +44,20 @@ struct service {
     bool is_ready;     /* it was, and has no scmi_service_look of its own */
 };
 
-static struct service services[SCMI_SERVICE_PLATFORMS];
+/* All that is kept but for the platforms' memory. It is in one piece, so that one address leads to each part. */
+static struct state {
+    /* It guards all of this, and each call of a hook. Interrupts are masked at EL3, so none comes while it is held. */
+    spinlock_t lock;
+    /* The channels that were made (scmi_smt_init_agent_channel); all others are 0. */
+    scmi_mailbox boxes[SCMI_PORT_AGENTS];
+    struct service services[SCMI_SERVICE_PLATFORMS];
+    /* The message that is served, and its reply. */
+    scmi_words copy;
+    uint64_t stack[SCMI_PORT_STACK / 8] __attribute__((aligned(16)));
+} state;
 static uint8_t memory[SCMI_SERVICE_PLATFORMS][SCMI_PLATFORM_BYTES(
     SCMI_SERVICE_FIRMWARE, SCMI_PORT_DOMAINS, SCMI_PORT_CLOCKS, SCMI_PORT_RATES, SCMI_PORT_DEVICES)]
     __attribute__((aligned(16)));
-static uint64_t stack[SCMI_PORT_STACK / 8] __attribute__((aligned(16)));
-/* The channels that were made (scmi_smt_init_agent_channel); all others are 0. */
-static scmi_mailbox boxes[SCMI_PORT_AGENTS];
-/* The message that is served, and its reply. */
-static scmi_words copy;
-/* It guards all of the above, and each call of a hook. Interrupts are masked at EL3, so none comes while it is held. */
-static spinlock_t lock;
 
 CASSERT(SCMI_PORT_AGENTS >= 1 && SCMI_SERVICE_FIRMWARE <= SCMI_SERVICE_MOST_AGENTS, scmi_port_agents);
 CASSERT(SCMI_PORT_STACK % 16 == 0, scmi_port_stack_is_aligned);
@@ -70,19 +73,29 @@ uint32_t scmi_service_on_stack(unsigned int agent, uintptr_t top, uint32_t (*cal
 #define IN_ONE_PIECE __attribute__((flatten))
 #define APART __attribute__((noinline))
 
+/* The address in a register: a compiler for size would make that of each part anew, at each use. */
+static inline struct state *the_state(void)
+{
+    struct state *all = &state;
+
+    __asm__("" : "+r"(all));
+    return all;
+}
+
 /* With the lock, and on the stack. */
 static uint32_t enter(uint32_t (*call)(unsigned int), unsigned int agent)
 {
+    struct state *all = the_state();
     uint32_t given;
 
-    spin_lock(&lock);
-    stack[0] = UNTOUCHED;
-    given = scmi_service_on_stack(agent, (uintptr_t)stack + sizeof(stack), call);
-    if (stack[0] != UNTOUCHED) {
+    spin_lock(&all->lock);
+    all->stack[0] = UNTOUCHED;
+    given = scmi_service_on_stack(agent, (uintptr_t)all->stack + sizeof(all->stack), call);
+    if (all->stack[0] != UNTOUCHED) {
         ERROR("SCMI: SCMI_PORT_STACK, %u, is too small\n", SCMI_PORT_STACK);
         panic();
     }
-    spin_unlock(&lock);
+    spin_unlock(&all->lock);
     return given;
 }
 
@@ -90,14 +103,14 @@ size_t scmi_service_stack_used(void)
 {
     size_t at = 1;
 
-    while (at < sizeof(stack) / sizeof(stack[0]) && stack[at] == 0)
+    while (at < sizeof(state.stack) / sizeof(state.stack[0]) && state.stack[at] == 0)
         at++;
-    return sizeof(stack) - at * sizeof(stack[0]);
+    return sizeof(state.stack) - at * sizeof(state.stack[0]);
 }
 
 static struct service *service_of(unsigned int agent)
 {
-    return &services[SCMI_PORT_SHARED ? 0 : agent];
+    return &state.services[SCMI_PORT_SHARED ? 0 : agent];
 }
 
 /* A mailbox over a channel. False if it is none. */
@@ -107,11 +120,11 @@ static bool is_over(const struct scmi_msg_channel *channel, scmi_mailbox *box)
 }
 
 /* The mailbox over an agent's channel. False if the agent has none. */
-static bool find_box(unsigned int agent, scmi_mailbox *box)
+static bool find_box(const struct state *all, unsigned int agent, scmi_mailbox *box)
 {
     if (agent >= SCMI_PORT_AGENTS)
         return false;
-    *box = boxes[agent];
+    *box = all->boxes[agent];
     return box->words != NULL;
 }
 
@@ -173,7 +186,7 @@ static APART uint32_t make(unsigned int agent)
     }
     board = scmi_service_board(agent, plat_scmi_get_channel(agent));
     if (board != NULL)
-        given = scmi_platform_new_of_in(platform, memory[service - services], sizeof(memory[0]), board);
+        given = scmi_platform_new_of_in(platform, memory[service - state.services], sizeof(memory[0]), board);
     if (given == SCMI_DONE && !(all_channels_fit(agent) && scmi_service_start(agent, platform))) {
         scmi_platform_free(platform);
         given = SCMI_NO_PLATFORM;
@@ -191,9 +204,8 @@ static bool made_another_rate(unsigned int agent, const scmi_effect *effect, uin
 }
 
 /* The hardware has made the change of a command. */
-static uint32_t commit(unsigned int agent, scmi_words *words, const scmi_effect *effect)
+static uint32_t commit(unsigned int agent, scmi_platform *platform, scmi_words *words, const scmi_effect *effect)
 {
-    scmi_platform *platform = &service_of(agent)->platform;
     uint64_t rate = 0;
 
     if (!made_another_rate(agent, effect, &rate))
@@ -206,14 +218,13 @@ static uint32_t commit(unsigned int agent, scmi_words *words, const scmi_effect 
  * Makes the change of a command, and has the library commit to it, or refuse it with the status of the hardware. A
  * number that is none, or says nothing of hardware, is HARDWARE_ERROR.
  */
-static void drive(unsigned int agent, scmi_words *words, const scmi_effect *effect)
+static void drive(unsigned int agent, scmi_platform *platform, scmi_words *words, const scmi_effect *effect)
 {
-    scmi_platform *platform = &service_of(agent)->platform;
     int32_t status = scmi_service_drive(agent, effect);
     uint32_t given;
 
     given = status == SCMI_SUCCESS
-                ? commit(agent, words, effect)
+                ? commit(agent, platform, words, effect)
                 : scmi_refuse_words(platform, words->reply, SCMI_MESSAGE_WORDS, &words->given, status);
     if (given == SCMI_WRONG_STATUS) {
         INFO("SCMI: agent %u: %d of the hardware is answered as HARDWARE_ERROR\n", agent, status);
@@ -239,20 +250,20 @@ static APART void answer_other(unsigned int agent, scmi_words *words)
 }
 
 /* Executes the message in the copy. There is no reply if it is malformed, or if the agent has no platform. */
-static void execute(unsigned int agent, scmi_words *words)
+static void execute(unsigned int agent, struct service *service, scmi_words *words)
 {
-    scmi_platform *platform = &service_of(agent)->platform;
+    scmi_platform *platform = &service->platform;
     scmi_effect effect;
     uint32_t given;
 
-    if (!service_of(agent)->is_ready)
+    if (!service->is_ready)
         prepare(agent, words);
     given = scmi_ask_words(platform, scmi_service_number(agent), words->message, words->count, words->reply,
                            SCMI_MESSAGE_WORDS, &words->given, &effect);
     if (given == SCMI_DONE)
         return;
     if (given == SCMI_EFFECT)
-        drive(agent, words, &effect);
+        drive(agent, platform, words, &effect);
     else if (given == SCMI_OTHER)
         answer_other(agent, words);
 }
@@ -260,15 +271,14 @@ static void execute(unsigned int agent, scmi_words *words)
 /* The flags of the message that was answered; 0 if there was none. */
 static IN_ONE_PIECE uint32_t serve(unsigned int agent)
 {
-    scmi_words *words = &copy;
+    struct state *all = the_state();
+    scmi_words *words = &all->copy;
     scmi_mailbox box;
     uint32_t flags;
 
-    /* In a register from here on: a compiler for size would make the address anew at each use. */
-    __asm__("" : "+r"(words));
-    if (!find_box(agent, &box) || scmi_mailbox_take_words(&box, words) != SCMI_DONE)
+    if (!find_box(all, agent, &box) || scmi_mailbox_take_words(&box, words) != SCMI_DONE)
         return 0;
-    execute(agent, words);
+    execute(agent, &all->services[SCMI_PORT_SHARED ? 0 : agent], words);
     if (SCMI_PORT_TRACE)
         scmi_trace_answer(agent, words);
     flags = scmi_shared_load(&box, SCMI_AT_FLAGS);
@@ -320,7 +330,7 @@ static void end_refused(unsigned int agent, uint32_t place, int32_t status)
 /* Of a platform's pending sets the first ends with which the hardware is done. The others wait, in their order. */
 static void complete(unsigned int at)
 {
-    scmi_platform *platform = &services[at].platform;
+    scmi_platform *platform = &state.services[at].platform;
     int32_t status = SCMI_SUCCESS;
     scmi_effect effect;
     uint32_t number, place;
@@ -382,7 +392,7 @@ static uint32_t restart(unsigned int agent)
     scmi_mailbox commands, messages;
     const scmi_mailbox *back;
 
-    if (!find_box(agent, &commands))
+    if (!find_box(&state, agent, &commands))
         return 0;
     back = is_over(scmi_service_outbox(agent), &messages) ? &messages : NULL;
     clear(&commands);
@@ -495,6 +505,6 @@ void scmi_smt_init_agent_channel(struct scmi_msg_channel *chan)
         ERROR("SCMI: a channel belongs to none of SCMI_PORT_AGENTS, %u\n", SCMI_PORT_AGENTS);
         panic();
     }
-    boxes[agent_of(chan)] = box;
+    state.boxes[agent_of(chan)] = box;
     scmi_service_restart(agent_of(chan));
 }

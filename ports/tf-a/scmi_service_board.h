@@ -58,9 +58,9 @@ static inline uint32_t scmi_service_number(unsigned int agent_id)
 const scmi_board *scmi_service_board(unsigned int agent_id, const struct scmi_msg_channel *channel);
 
 /*
- * Once the platform is made: commands of the firmware's own (scmi_answer as SCMI_SERVICE_FIRMWARE), such as what an
- * agent may not use, and the hardware, which is brought to the platform's values. The handle stays where it is. False
- * if it fails: then there is no platform, and the agent gets channel errors.
+ * Once the platform is made: commands of the firmware's own (scmi_ask_words as SCMI_SERVICE_FIRMWARE, which the image
+ * has already), such as what an agent may not use, and the hardware, which is brought to the platform's values. The
+ * handle stays where it is. False if it fails: then there is no platform, and the agent gets channel errors.
  */
 bool scmi_service_start(unsigned int agent_id, scmi_platform *platform);
 

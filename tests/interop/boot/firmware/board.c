@@ -57,11 +57,16 @@ const scmi_board *scmi_service_board(unsigned int agent, const struct scmi_msg_c
     return &board;
 }
 
+/* Asked in words, as the port asks: another call would bring the library's execution a second time. */
 static bool deny(scmi_platform *platform, unsigned int agent, uint32_t device)
 {
-    scmi_area area = { .length = 16, .header = SET_PERMISSIONS, .payload = { scmi_service_number(agent), device, 0 } };
+    const uint32_t message[] = { SET_PERMISSIONS, scmi_service_number(agent), device, 0 };
+    uint32_t reply[SCMI_MESSAGE_WORDS], count;
+    scmi_effect effect;
 
-    return scmi_answer(platform, SCMI_SERVICE_FIRMWARE, area.bytes) == SCMI_DONE && area.payload[0] == 0;
+    return scmi_ask_words(platform, SCMI_SERVICE_FIRMWARE, message, 4, reply, SCMI_MESSAGE_WORDS, &count, &effect) ==
+               SCMI_DONE &&
+           reply[1] == SCMI_SUCCESS;
 }
 
 bool scmi_service_start(unsigned int agent, scmi_platform *platform)
