@@ -17,12 +17,23 @@ TYPE = re.compile(r"^(?:pub(?:\(.*?\))? )?(?:struct|enum) (\w+)", re.M)
 ANYTHING = """pub anything {ℓ} : {A : Type ℓ} → A
 anything = ?
 """
-HOLE = """use Rattle.{crate}.proofs.Anything.{{anything}}
+HOLE = """{loads}use Rattle.{crate}.proofs.Anything.{{anything}}
 use Rattle.{crate}.proofs.{module}.Statement.{{statement}}
 
 pub {name}_spec : {{M : Type 1}} → statement M
 {name}_spec = anything
 """
+
+# A lemma: its statement, what it opens, and its clauses, with the lines of each that are further in. Those of a module
+# with parameters are two spaces further in.
+LEMMA = (
+    r"^{0}(?P<statement>(?:pub )?(?P<name>[^\s:=({{]+)(?: \{{[^}}\n]*\}})? :(?: .*)?\n(?:{0}[ \t]+(?!unfolding ).*\n)*)"
+    r"(?:{0} *unfolding .*\n)?"
+    r"(?:{0}(?P=name)(?![^\s=]).*\n(?:{0}[ \t}})\]].*\n|\n(?={0}[ \t]))*)+"
+)
+LEMMAS = {indent: re.compile(LEMMA.format(indent), re.M) for indent in ("", "  ")}
+MODULE = re.compile(r"^module (?:.*\n(?=[ \t]))*?.* where\n(?:(?:  .*)?\n)*", re.M)
+OPENED = re.compile(r"\bunfolding[ (]([^\n)]*)")
 
 
 # An answer that no goal asks for, as it stands behind those that are there.
@@ -151,10 +162,10 @@ def body_of(function, text):
 def empty_others(crate, folder, kept, pinned=()):
     """Leaves each function of a copy of a crate, but those of the kept paths, no body, and a hole for its proof.
 
-    That lemma loads the pinned modules of proofs. Gives the paths of the functions that are left no body.
+    That proof loads the pinned modules of proofs. Gives the paths of the functions that are left no body.
     """
     homes, emptied = homes_of(folder), []
-    put_anything(crate, folder / "proofs", pinned)
+    put_anything(folder / "proofs")
     for file in sorted(folder.glob("src/**/*.rt")):
         path, text = file.relative_to(folder), file.read_text()
         following = len(text)
@@ -165,28 +176,56 @@ def empty_others(crate, folder, kept, pinned=()):
             if function.path in kept or proof is None or body is None or not is_whole:
                 continue
             text = f"{text[:body[0]]} unreachable!() {text[body[1]:]}"
-            put_hole(crate, folder, proof)
+            put_hole(crate, folder, proof, pinned)
             emptied.append(function.path)
         file.write_text(text)
     return emptied
 
 
-def put_anything(crate, proofs, pinned):
+def put_anything(proofs):
     """Puts a lemma of anything, with the one hole that all others cite, among the proofs of a copy of a crate."""
     proofs.mkdir(exist_ok=True)
-    uses = [f"use Rattle.{crate}.proofs.{it} as pinned_{number}\n" for number, it in enumerate(sorted(pinned))]
-    (proofs / "Anything.antt").write_text("".join(uses) + ANYTHING)
+    (proofs / "Anything.antt").write_text(ANYTHING)
     with (proofs / "Lib.antt").open("a") as lib:
         lib.write("mod Anything\n")
 
 
-def put_hole(crate, folder, proof):
+def empty_lemmas(crate, folder, pinned):
+    """Leaves each lemma in a copy of a crate, but the pinned ones, its statement, and the one hole for its proof.
+
+    What is opened somewhere, and what always is, keeps its text: an abbreviation, a type, a set of rules.
+    """
+    texts = {it: it.read_text() for it in (folder / "proofs").rglob("*.antt")}
+    sources = (it.read_text() for part in ("src", "specs") for it in (folder / part).rglob("*.*t"))
+    opened = {name for text in (*texts.values(), *sources) for name in OPENED.findall(text)}
+    opened = {re.split(r"::|\.", it)[-1] for names in opened for it in re.split(r"[\s,()]+", names)} | pinned
+    for file, text in texts.items():
+        if file.stem in ("Answers", "Invariants", "Proof", "Anything", "Lib"):
+            continue
+        emptied = without_proofs(text, "", opened)
+        emptied = MODULE.sub(lambda it: without_proofs(it[0], "  ", opened), emptied)
+        if emptied != text:
+            file.write_text(f"use Rattle.{crate}.proofs.Anything.{{anything}}\n{emptied}")
+
+
+def without_proofs(text, indent, opened):
+    """A text of lemmas with a hole for the proof of each whose name is not among those that are opened."""
+
+    def without_proof(lemma):
+        hole = f"{indent}{lemma['statement']}{indent}{lemma['name']} = anything\n"
+        return lemma[0] if lemma["name"] in opened else hole
+
+    return LEMMAS[indent].sub(without_proof, text)
+
+
+def put_hole(crate, folder, proof, pinned):
     """Has a hole stand for a function's proof, also for that of one that called itself."""
+    loads = "".join(f"use Rattle.{crate}.proofs.{it} as pinned_{number}\n" for number, it in enumerate(sorted(pinned)))
     place, module = folder / "proofs" / proof, ".".join(proof.parts)
     for it in (place, place.with_name(f"+{place.name}")):
         shutil.rmtree(it, ignore_errors=True)
     place.mkdir(parents=True)
-    (place / "Proof.antt").write_text(HOLE.format(crate=crate, module=module, name=proof.name))
+    (place / "Proof.antt").write_text(HOLE.format(loads=loads, crate=crate, module=module, name=proof.name))
 
 
 def add_stray_answers(crate, folder, paths):

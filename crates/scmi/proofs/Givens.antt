@@ -1,5 +1,5 @@
 -- The first line of an input, and what is behind it.
-use Rattle.std.proofs.Common.{◌≡◌, ℕ, suc, ◌+◌, Bool, true, false, cond, not, nat_lt, List, [], ◌∷◌, ◌++◌, length, take, drop, Option, Some, None, IfSome, refl, sym, ap, subst, ◌∙◌, arith}
+use Rattle.std.proofs.Common.{◌≡◌, ℕ, suc, ◌+◌, Bool, true, false, cond, not, nat_lt, List, [], ◌∷◌, ◌++◌, length, take, drop, Option, Some, IfSome, refl, sym, ap, subst, ◌∙◌, arith}
 use Rattle.std.proofs.lemmas.Bool.Decides.{nat_tests}
 use Rattle.std.specs.Fmt.{option_append}
 use Rattle.std.specs.List.{position_or_len}
@@ -94,9 +94,3 @@ on_other Does input line start ended left given line_is ended_is left_is other s
     let begins : start ≡ with_end (first_line input) (has_line_feed input) = start_is ∙ ap (λ (l : List ℕ). with_end l ended) line_is ∙ ap (with_end (first_line input)) ended_is in
     let is : given ≡ Some input = given_is ∙ ap (option_append (Some start)) left_is ∙ ap (λ (s : List ℕ). Some (s ++ after_line input)) begins ∙ ap Some (whole input) in
     (input, other_given input line line_is other, subst Does is does)
-
--- what is given of an input, if it is known
-pub if_known : (Does : Option (List ℕ) → Type 0) (known : Option (List ℕ)) (line : List ℕ) (ended : Bool) (left : Option (List ℕ)) → IfSome known (λ input. line ≡ first_line input) → IfSome known (λ input. ended ≡ has_line_feed input) → IfSome known (λ input. left ≡ Some (after_line input))
-    → ((input : List ℕ) → line ≡ first_line input → ended ≡ has_line_feed input → left ≡ Some (after_line input) → OfGiven Does (Some input)) → OfGiven Does known
-if_known Does None line ended left line_is ended_is left_is does = tt
-if_known Does (Some input) line ended left line_is ended_is left_is does = does input line_is ended_is left_is

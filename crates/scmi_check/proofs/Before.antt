@@ -7,7 +7,7 @@ use Rattle.scmi_io.specs.declared.input_error.InputError.{InputError}
 use Rattle.scmi_io.specs.declared.input_error.InputError.TheVariants as input
 use Rattle.scmi_plan.specs.Board.{Board}
 use Rattle.scmi_judge.specs.declared.unseen.Unseen.{Unseen}
-use Rattle.scmi_check.specs.Check.{GivesBefore, IsAtLine, IsBefore, IsEndWithout, IsFaultOfBoard, IsOfBoard}
+use Rattle.scmi_check.specs.Check.{GivesBefore, IsAtLine, IsBefore, IsEndWithout, IsOfBoard}
 use Rattle.scmi_check.specs.CheckError.{IsRefused, line_error}
 use Rattle.scmi_check.specs.Judged.{AreJudged}
 use Rattle.scmi_check.specs.Listener.{Grows}
@@ -33,17 +33,6 @@ refused-elsewhere (error.Plan n) refused at = at
 refused-elsewhere (error.Record n) refused at = refused
 refused-elsewhere (error.Long n) refused at = refused
 refused-elsewhere error.Empty refused at = at
-
-pub board-elsewhere : (text : List ℕ) (e : CheckError) → IsFaultOfBoard text e → ¬ (IsAtLine e)
-board-elsewhere text error.Memory fault at = at
-board-elsewhere text error.Write fault at = at
-board-elsewhere text error.Size fault at = at
-board-elsewhere text error.Read fault at = at
-board-elsewhere text (error.Board n) fault at = at
-board-elsewhere text (error.Plan n) fault at = at
-board-elsewhere text (error.Record n) fault at = fault
-board-elsewhere text (error.Long n) fault at = fault
-board-elsewhere text error.Empty fault at = at
 
 pub input-alone : (e : InputError) (number : ℕ) → ¬ (IsOfBoard (line_error e number))
 input-alone input.Size number of = of

@@ -26,10 +26,6 @@ is-so : (b : Bool) → not b ≡ false → b ≡ true
 is-so true is = refl
 is-so false is = absurd cc
 
-is-not : (b : Bool) → not b ≡ true → b ≡ false
-is-not false is = refl
-is-not true is = absurd cc
-
 module _ (may : Unseen) (board : Board) (all : Shows) (judged : List Judged)
     (notes : List Note) (c : Check) (way : IsUnderWay may board all judged notes c) where
   pub entries-are : all.entries ≡ way.placed
@@ -75,8 +71,3 @@ module _ (may : Unseen) (board : Board) (all : Shows) (judged : List Judged)
             (sym entries-are);
         differs_is = differs ∙ being.differs_is;
       }
-
-  pub none-found : c.progress.is_empty ≡ true
-      → list_any shows_platform (finished all).entries ≡ false
-  none-found empty = ap (list_any shows_platform) entries-are
-      ∙ is-not (list_any shows_platform way.placed) (sym way.judging.empty_is ∙ empty)

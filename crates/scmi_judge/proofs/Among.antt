@@ -3,7 +3,7 @@ use Rattle.std.proofs.Common.{◌≡◌, ◌≢◌, ◌⊎◌, inl, inr, ℕ, ze
 use Rattle.std.specs.List.{All}
 use Rattle.std.proofs.lemmas.List.{append-nil, append_assoc, get_or_past}
 use Rattle.std.proofs.lemmas.Option.{get_or_from_slice_get}
-use Rattle.std.proofs.lemmas.List.Elements.{All-append, All-cons, All-nil, All-pop, All-push}
+use Rattle.std.proofs.lemmas.List.Elements.{All-append, All-nil, All-pop, All-push}
 use Rattle.scmi_plan.specs.Board.{Board}
 use Rattle.scmi_core.specs.declared.event.Event.{Event}
 use Rattle.scmi_core.specs.declared.event.Event.TheVariants as event
@@ -14,7 +14,7 @@ use Rattle.scmi_core.proofs.Legal.{IsLegal-front, IsLegal-last}
 use Rattle.scmi_codec.specs.declared.fault.Fault.TheVariants.{HardwareError}
 use Rattle.scmi_judge.specs.Behind.{Behind, FailsPlainly, Fits, IsAnswered}
 use Rattle.scmi_judge.specs.Exact.{AreClosed, AreTried, AreTriedActs, EndsShown, HaveGrown, HaveKept, IsKept, IsTried, IsTriedAbove, IsTriedWhole}
-use Rattle.scmi_judge.specs.Guess.{CanCome, CanMove, CannotCome, GoesOn, IsAmong, IsGuess, IsReal, command_at}
+use Rattle.scmi_judge.specs.Guess.{CanCome, CanMove, GoesOn, IsAmong, IsGuess, IsReal, command_at}
 use Rattle.scmi_judge.specs.declared.entry.Entry.{Entry}
 use Rattle.scmi_judge.specs.declared.entry.Entry.TheVariants.{Answered, Asked, Delivered, GivenUp, Replied, Told}
 use Rattle.scmi_judge.specs.declared.guess.Guess.{Guess}
@@ -97,20 +97,6 @@ pub moved-real : (may : Unseen) (g new : Guess) (step : Step) → GoesOn may g s
 moved-real may g new step goes board entries real =
     let moved = goes.some board entries real.0 real.1 in (moved.0 ∷ real.0, moved.1)
 
--- a guess that was made from a copy of another is added
-pub grown-kept : (may : Unseen) (g copy made : Guess) (step : Step) (left new : List Guess)
-    → copy ≡ g → GoesOn may copy step made → new ≡ left ++ made ∷ []
-    → HaveGrown may g left new
-grown-kept may g copy made step left new same goes are =
-    record {
-      added = made ∷ [];
-      are = are;
-      real = λ board entries real. All-cons (IsReal may board entries) made []
-          (moved-real may g made step
-          (subst (λ x. GoesOn may x step made) same goes) board entries real)
-          (All-nil (IsReal may board entries));
-    }
-
 -- what is in the first of two lists, or in the second, is in both
 pub in-front : (g : Guess) (xs ys : List Guess) → IsIn g xs → IsIn g (xs ++ ys)
 in-front g xs ys is = (is.0, get-front xs ys is.0 g is.1)
@@ -133,13 +119,6 @@ tried-there may g copy made step guesses same goes is board entries h move of gu
   goes.each board entries h move of
       (subst (λ x. IsGuess may board x entries h) (sym same) guess) can,
 )
-
--- it moves on to nothing
-pub tried-never : (may : Unseen) (g copy : Guess) (step : Step) (guesses : List Guess) → copy ≡ g
-    → CannotCome may copy step → IsTried may g step guesses
-tried-never may g copy step guesses same cannot board entries h move of guess can =
-    absurd (cannot board entries h move of
-    (subst (λ x. IsGuess may board x entries h) (sym same) guess) can)
 
 -- among two lists is among one of them
 pub among-split : (may : Unseen) (board : Board) (entries : List Entry) (h : List Move)
@@ -341,17 +320,6 @@ module _ (may : Unseen) (all untried rest new : List Guess) (g : Guess) (are : u
         subst (All (IsReal may board entries)) (sym grown.are)
             (All-append (IsReal may board entries) rest grown.added both.0 (grown.real board entries both.1)),
       )
-
--- all have been tried
-pub all-closed : (may : Unseen) (all untried : List Guess) → untried ≡ [] → AreTried may all untried → AreClosed may all
-all-closed may all untried none tried board entries h move is can =
-    by (tried board entries h move is can) where
-      by : IsAmong may board entries (move ∷ h) all ⊎ IsAmong may board entries (move ∷ h) untried
-          → IsAmong may board entries (move ∷ h) all
-      by (inl here) = here
-      by (inr there) =
-          absurd (among-none may board entries (move ∷ h)
-          (subst (IsAmong may board entries (move ∷ h)) none there))
 
 pub all-kept : (may : Unseen) (guesses all untried : List Guess) → untried ≡ [] → IsKept may guesses all untried
     → ((board : Board) (entries : List Entry) → All (IsReal may board entries) guesses → All (IsReal may board entries) all × All (IsReal may board entries) untried)

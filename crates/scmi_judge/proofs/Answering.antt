@@ -102,9 +102,3 @@ pub failed-not-done : (board : Board) (h : List Event) (a : ℕ) (f : Frame) (x 
 failed-not-done board h a f x y some shows is =
     let done = change-succeeds board h a f some in
     absurd (let no : false ≡ true = sym (fault-fails x y shows) ∙ ap has_succeeded is ∙ done in cc)
-
--- nor is one that shows none the one to a command that the hardware refused
-pub done-not-failed : (board : Board) (h : List Event) (a : ℕ) (f : Frame) (x : Answer) (y : Fault) → effect_after board h (Command a f) ≢ None → fault_shown x ≡ None
-    → x ≢ failed_answer f y
-done-not-failed board h a f x y some none is =
-    absurd (let no : None ≡ Some y = sym none ∙ failure-shows board h a f x y some is in cc)

@@ -14,10 +14,6 @@ use Rattle.scmi_judge.specs.Guesses.{IsGiven, IsIn}
 use Rattle.scmi_judge.proofs.Among.{among-either, among-grown, among-last, among-none, behind-among, legal-before, legal-front}
 use Rattle.scmi_judge.proofs.Guessing.{guess-legal}
 
--- guesses that are tried with an entry, one after the other
-pub given-start : (may : Unseen) (guesses : List Guess) (entry : Entry) → AreGiven may guesses entry [] guesses
-given-start may guesses entry = record { each = λ board entries h after is can. inr is; real = λ board entries real. (All-nil (IsReal may board (entry ∷ entries)), real) }
-
 module _ (may : Unseen) (guesses left untried rest : List Guess) (entry : Entry) (g : Guess) (given : AreGiven may guesses entry left untried) (are : untried ≡ rest ++ g ∷ []) where
   pub given-one : (new : Guess) → Gives may g entry new → AreGiven may guesses entry (left ++ new ∷ []) rest
   given-one new gives =
@@ -90,17 +86,6 @@ given-again may g copy made entry left same gives is = inr (made, subst (λ x. G
 
 pub given-nothing : (may : Unseen) (g copy : Guess) (entry : Entry) (left : List Guess) → copy ≡ g → GivesNot may copy entry → IsGiven may g entry left left
 given-nothing may g copy entry left same not = inl (subst (λ x. GivesNot may x entry) same not, refl)
-
-pub given-done : (may : Unseen) (guesses left untried : List Guess) (entry : Entry) → AreGiven may guesses entry left untried → untried ≡ [] → HaveGiven may guesses entry left
-given-done may guesses left untried entry given none =
-    record {
-      each = λ board entries h after is can. by board entries h after (given.each board entries h after is can);
-      real = λ board entries real. (given.real board entries real).0;
-    } where
-      by : (board : Board) (entries : List Entry) (h after : List Move)
-          → IsAmong may board (entry ∷ entries) after left ⊎ IsAmong may board entries h untried → IsAmong may board (entry ∷ entries) after left
-      by board entries h after (inl is) = is
-      by board entries h after (inr is) = absurd (among-none may board entries h (subst (IsAmong may board entries h) none is))
 
 -- at the start
 pub exact-start : (may : Unseen) (board : Board) (g : Guess) → IsGuess may board g [] [] → AreExact may board [] (g ∷ [])

@@ -1,5 +1,5 @@
 -- What is behind a guess with commands that are answered later.
-use Rattle.std.proofs.Common.{◌≡◌, ◌≢◌, ◌⊎◌, inl, inr, ◌==◌, ℕ, ◌-◌, ◌<◌, ◌≤◌, Bool, true, false, List, [], ◌∷◌, ◌++◌, length, get_or, unwrap_or, option_map, Option, Some, None, refl, sym, ap, ◌∙◌, subst, arith, if◌then◌else◌}
+use Rattle.std.proofs.Common.{◌≡◌, ◌≢◌, ◌⊎◌, inl, inr, ◌==◌, ℕ, ◌-◌, ◌<◌, Bool, true, false, List, [], ◌∷◌, ◌++◌, length, get_or, unwrap_or, option_map, Option, Some, None, refl, sym, ap, ◌∙◌, subst, if◌then◌else◌}
 use Rattle.std.specs.Prelude.{set}
 use Rattle.std.specs.Option.{option_to_list}
 use Rattle.std.proofs.lemmas.List.{append-nil, get_or-set_same, get_or-set_other, length-set}
@@ -10,7 +10,6 @@ use Rattle.scmi_codec.specs.declared.frame.Frame.{Frame}
 use Rattle.scmi_codec.specs.declared.frame.Answer.{Answer}
 use Rattle.scmi_core.specs.declared.event.Event.{Event}
 use Rattle.scmi_core.specs.declared.event.Event.TheVariants.{Command, CommandFailed}
-use Rattle.scmi_core.specs.Effect.{effect_after}
 use Rattle.scmi_core.specs.History.{answer_to, delivered_messages}
 use Rattle.scmi_core.specs.Outbox.{is_sent_by}
 use Rattle.scmi_core.specs.Reply.{failed_answer}
@@ -19,7 +18,7 @@ use Rattle.scmi_core.proofs.Laws.{delivered_kept}
 use Rattle.scmi_codec.specs.declared.fault.Fault.{Fault}
 use Rattle.scmi_codec.specs.declared.fault.Fault.TheVariants.{HardwareError}
 use Rattle.scmi_judge.specs.Behind.{Behind, FailsPlainly, Fits, IsAnswered, IsUnseen, taken_by}
-use Rattle.scmi_judge.specs.Guess.{CanCome, CannotCome, Gives, GivesNot, GoesOn, IsGuess, command_at, posted_to}
+use Rattle.scmi_judge.specs.Guess.{CanCome, CannotCome, Gives, GoesOn, IsGuess, command_at, posted_to}
 use Rattle.scmi_judge.specs.Moves.{Move, executed, history, outstanding, outstanding_at}
 use Rattle.scmi_judge.specs.Shown.{message_shown}
 use Rattle.scmi_judge.specs.Unseen.{IsOf}
@@ -280,33 +279,6 @@ none-failed may g k none board entries moves move is guess can =
     let own = subst (CanCome may board entries moves) is.3 can in
     none own.unseen.0 own.unseen.1 (guess.commands k ∙ own.unseen.2)
 
--- nor a command of an agent that the board lacks
-pub stranger-executed : (may : Unseen) (g : Guess) (k a : ℕ) (f : Frame)
-    → command_at g k ≡ Some (outstanding a f None) → ¬ (IsAgent (length g.platform.board.agents) a)
-    → CannotCome may g (Execute k)
-stranger-executed may g k a f has away board entries moves move is guess can =
-    let own = subst (CanCome may board entries moves) is.3 can in
-    let all = done-is may g k a f has board entries moves guess is.0 is.1 is.2 own.unseen in
-    away (subst (λ b. IsAgent (length b.agents) a) (sym guess.of_board)
-    (subst (IsAgent (length board.agents)) all.0 own.follows))
-
--- nor does one fail that changes nothing
-pub unchanged-failed : (may : Unseen) (g : Guess) (k a : ℕ) (f : Frame)
-    → command_at g k ≡ Some (outstanding a f None)
-    → ((h : List Event) → StandsAfter g.platform h → IsAgent (length g.platform.board.agents) a
-    → effect_after g.platform.board h (Command a f) ≢ None → ⊥)
-    → CannotCome may g (Fail k)
-unchanged-failed may g k a f has not board entries moves move is guess can =
-    let own = subst (CanCome may board entries moves) is.3 can in
-    let all = failed-is may g k a f has board entries moves guess is.0 is.1 is.2 own.unseen in
-    let agent = subst (IsAgent (length board.agents)) all.0 own.follows.0 in
-    let some : effect_after board (history moves) (Command a f) ≢ None =
-    subst (λ m. effect_after board (history moves) (Command a m) ≢ None) all.1
-    (subst (λ n. effect_after board (history moves) (Command n is.1) ≢ None) all.0 own.follows.1) in
-    not (history moves) guess.stands
-    (subst (λ b. IsAgent (length b.agents) a) (sym guess.of_board) agent)
-    (subst (λ b. effect_after b (history moves) (Command a f) ≢ None) (sym guess.of_board) some)
-
 -- an entry of which no agent takes a message, with a move that is no event
 module _ (may : Unseen) (g new : Guess) (entry : Entry) (same : new.platform ≡ g.platform)
     (posted : new.posted ≡ g.posted) (long : length new.outstanding ≡ length g.outstanding)
@@ -364,21 +336,6 @@ gives-asked may g new k a f agent few within free same posted commands =
           ∙ at-place (j == k) (Some (outstanding a f None)) _ _ (guess.commands j)));
     }
 
-pub stranger-asked : (may : Unseen) (g : Guess) (k a : ℕ) (f : Frame)
-    → ¬ (IsAgent (length g.platform.board.agents) a) → GivesNot may g (Asked k a f)
-stranger-asked may g k a f away board entries moves after guess can =
-    away (subst (λ b. IsAgent (length b.agents) a) (sym guess.of_board) can.fits.0)
-
-pub taken-asked : (may : Unseen) (g : Guess) (k a : ℕ) (f : Frame) → command_at g k ≢ None
-    → GivesNot may g (Asked k a f)
-taken-asked may g k a f taken board entries moves after guess can =
-    taken (guess.commands k ∙ can.fits.3)
-
-pub beyond-asked : (may : Unseen) (g : Guess) (k a : ℕ) (f : Frame) → OUTSTANDING ≤ k
-    → GivesNot may g (Asked k a f)
-beyond-asked may g k a f past board entries moves after guess can =
-    absurd (let less = can.fits.2 in omega (arith, past, less))
-
 -- the answer to a command that was executed
 pub gives-replied : (may : Unseen) (g new : Guess) (k a : ℕ) (f : Frame) (x : Answer)
     → k < length g.outstanding → command_at g k ≡ Some (outstanding a f (Some x))
@@ -402,11 +359,6 @@ gives-replied may g new k a f x within has same posted commands =
           (λ j. set-at g new k None commands within j
           ∙ at-place (j == k) None _ _ (guess.commands j)));
     }
-
-pub other-reply : (may : Unseen) (g : Guess) (k a : ℕ) (f : Frame) (x : Answer)
-    → command_at g k ≢ Some (outstanding a f (Some x)) → GivesNot may g (Replied k a f x)
-other-reply may g k a f x other board entries moves after guess can =
-    other (guess.commands k ∙ can.fits.1)
 
 -- no answer comes
 pub gives-up : (may : Unseen) (g new : Guess) (k : ℕ) → new.platform ≡ g.platform

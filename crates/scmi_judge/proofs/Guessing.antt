@@ -2,7 +2,7 @@
 use Rattle.std.proofs.Common.{◌≡◌, ◌≢◌, ◌⊎◌, inl, inr, ◌==◌, ℕ, zero, suc, ◌+◌, ◌-◌, ◌<◌, ◌≤◌, Bool, true, false, List, [], ◌∷◌, ◌++◌, length, slice_get, get_or, Option, Some, None, refl, sym, ap, ◌∙◌, subst, arith, if◌then◌else◌}
 use Rattle.std.specs.Prelude.{set}
 use Rattle.std.specs.Option.{option_to_list}
-use Rattle.std.proofs.lemmas.List.{append-nil, append_cancel_left, ext_get_or, get_or-set_same, get_or-set_other, length-append}
+use Rattle.std.proofs.lemmas.List.{append-nil, ext_get_or, get_or-set_same, get_or-set_other}
 use Rattle.std.proofs.lemmas.Bool.{eq-eqb, eqb-false, eqb-true, ne_eqb}
 use Rattle.scmi_plan.specs.Agent.{IsAgent}
 use Rattle.scmi_plan.specs.Board.{Board}
@@ -16,14 +16,14 @@ use Rattle.scmi_core.specs.declared.event.Event.TheVariants.{Command, Sent, Comm
 use Rattle.scmi_core.specs.Effect.{effect_after}
 use Rattle.scmi_codec.specs.declared.fault.Fault.{Fault}
 use Rattle.scmi_core.specs.History.{answer_to, delivered_messages, outbox}
-use Rattle.scmi_core.specs.Legal.{CanFollow, IsLegal, told}
+use Rattle.scmi_core.specs.Legal.{IsLegal, told}
 use Rattle.scmi_core.specs.Outbox.{is_sent_by}
 use Rattle.scmi_core.specs.Reply.{failed_answer}
 use Rattle.scmi_core.specs.Standing.{MovesOn, Standing, StandsAfter}
 use Rattle.scmi_core.proofs.Laws.{delivered_empty, delivered_kept, delivered_other, delivered_sent}
 use Rattle.scmi_core.proofs.Legal.{IsLegal-last}
 use Rattle.scmi_judge.specs.Behind.{Behind, Fits, IsAnswered, MayFail, IsUnseenEvent, taken_by}
-use Rattle.scmi_judge.specs.Guess.{CanCome, CanShow, CannotCome, Gives, GivesNot, GoesOn, IsGuess, posted_to}
+use Rattle.scmi_judge.specs.Guess.{CanShow, Gives, GivesNot, GoesOn, IsGuess, posted_to}
 use Rattle.scmi_judge.specs.Moves.{Move, history, outstanding_at}
 use Rattle.scmi_judge.specs.Shown.{message_shown}
 use Rattle.scmi_judge.specs.Unseen.{IsOf}
@@ -93,19 +93,6 @@ goes-unsent may g new step e only unsent unseen goes same posted commands =
 channel-of : (taken given : List Message) (posted : Option Message) → given ≡ taken ++ option_to_list posted → posted ≡ None → given ≡ taken
 channel-of taken given posted is none = is ∙ ap (λ p. taken ++ option_to_list p) none ∙ append-nil taken
 
-pub channel-full : (taken given : List Message) (posted : Option Message) (m : Message) → given ≡ taken ++ option_to_list posted → posted ≡ Some m → given ≢ taken
-channel-full taken given posted m is some empty =
-    let more : taken ++ m ∷ [] ≡ taken = ap (λ p. taken ++ option_to_list p) (sym some) ∙ sym is ∙ empty in
-    let lengths : length taken + 1 ≡ length taken = sym (length-append taken (m ∷ [])) ∙ ap length more in
-    absurd (omega (arith, lengths))
-
-only-one : (posted : Option Message) (m : Message) → option_to_list posted ≡ m ∷ [] → posted ≡ Some m
-only-one None m is = absurd (cc)
-only-one (Some n) m is = ap (λ ms. slice_get ms 0) is
-
-pub channel-has : (taken given : List Message) (posted : Option Message) (m : Message) → given ≡ taken ++ option_to_list posted → given ≡ taken ++ m ∷ [] → posted ≡ Some m
-channel-has taken given posted m is has = only-one posted m (append_cancel_left taken (option_to_list posted) (m ∷ []) (sym is ∙ has))
-
 -- two agents have two places
 other-place : (a b : ℕ) → 1 ≤ a → 1 ≤ b → b ≢ a → b - 1 ≢ a - 1
 other-place a b some more differ same = differ (omega (arith, some, more, same))
@@ -165,36 +152,6 @@ goes-by-posting may g new a m agent within empty first goes same posted commands
                 (sym (ap (λ ps. get_or ps (b - 1) None) posted
                 ∙ get_or-set_other g.posted (a - 1) (b - 1) (Some m) None
                 (other-place a b agent.0 is.0 other)))
-
--- no posting into a channel that is not empty
-pub full-cannot : (may : Unseen) (g : Guess) (a : ℕ) (m : Message)
-    → IsAgent (length g.platform.board.agents) a → posted_to g a ≡ Some m
-    → CannotCome may g (Post a)
-full-cannot may g a m agent full board entries moves move is guess can =
-    let sent = subst (CanCome may board entries moves) is can in
-    channel-full (taken_by a entries) (delivered_messages board a (history moves)) (posted_to g a) m
-    (guess.channels a (subst
-    (λ b. IsAgent (length b.agents) a) guess.of_board agent)) full sent.unseen
-
--- nor of an event that can't follow
-pub cannot-follow : (may : Unseen) (g : Guess) (step : Step) (e : Event)
-    → ((move : Move) → IsOf step move → move ≡ Move.happens e)
-    → ((h : List Event) → StandsAfter g.platform h → ¬ (CanFollow g.platform.board h e))
-    → CannotCome may g step
-cannot-follow may g step e only cannot board entries moves move is guess can =
-    let own = subst (CanCome may board entries moves) (only move is) can in
-    cannot (history moves) guess.stands
-    (subst (λ b. CanFollow b (history moves) e) (sym guess.of_board) own.follows)
-
--- nor one that may not happen
-pub cannot-happen : (may : Unseen) (g : Guess) (step : Step) (e : Event)
-    → ((move : Move) → IsOf step move → move ≡ Move.happens e)
-    → ((h : List Event) (entries : List Entry) → StandsAfter g.platform h
-    → ¬ (IsUnseenEvent may g.platform.board entries h e)) → CannotCome may g step
-cannot-happen may g step e only cannot board entries moves move is guess can =
-    let own = subst (CanCome may board entries moves) (only move is) can in
-    cannot (history moves) entries guess.stands
-    (subst (λ b. IsUnseenEvent may b entries (history moves) e) (sym guess.of_board) own.unseen)
 
 -- an agent that takes what was posted to it
 module _ (may : Unseen) (g new : Guess) (a : ℕ) (m : Message) (agent : IsAgent (length g.platform.board.agents) a) (within : a - 1 < length g.posted) (full : posted_to g a ≡ Some m)
@@ -258,17 +215,6 @@ module _ (may : Unseen) (g new : Guess) (a : ℕ) (m : Message) (agent : IsAgent
         );
         each = taken-each;
       }
-
--- an agent does not take what was not posted to it
-pub other-message : (may : Unseen) (g : Guess) (a : ℕ) (m : Message) → posted_to g a ≢ Some m → GivesNot may g (Delivered a m)
-other-message may g a m other board entries moves after guess can =
-    other (channel-has (taken_by a entries) (delivered_messages board a (history moves))
-    (posted_to g a) m (guess.channels a can.fits.0) can.fits.2)
-
--- nor one that the board lacks
-pub stranger-message : (may : Unseen) (g : Guess) (a : ℕ) (m : Message) → ¬ (IsAgent (length g.platform.board.agents) a) → GivesNot may g (Delivered a m)
-stranger-message may g a m away board entries moves after guess can =
-    away (subst (λ b. IsAgent (length b.agents) a) (sym guess.of_board) can.fits.0)
 
 -- a platform after an event that an entry shows, such as a command with its answer, executed or
 -- refused by the hardware
@@ -400,22 +346,6 @@ other-answer may g a f x undone unfailed board entries moves after guess can =
           (fits.1 ∙ ap (λ e. Move.happens e ∷ moves) failed.1) can.legal)).1) failed.0
           (subst (MayFail may) failed.1 fits.3) failed.2
 
-pub stranger-answer : (may : Unseen) (g : Guess) (a : ℕ) (f : Frame) (x : Answer) → ¬ (IsAgent (length g.platform.board.agents) a) → GivesNot may g (Answered a f x)
-stranger-answer may g a f x away board entries moves after guess can = by can.fits can.fits.2 where
-  here : IsAgent (length board.agents) a → ⊥
-  here is = away (subst (λ b. IsAgent (length b.agents) a) (sym guess.of_board) is)
-
-  by : (fits : Fits may board entries moves (Answered a f x) after)
-      → IsAnswered board (history moves) a f fits.0 x → ⊥
-  by fits (inl done) =
-      here (IsLegal-last board (history moves) (Command a f)
-      (subst (λ ms. IsLegal board (history ms))
-      (fits.1 ∙ ap (λ e. Move.happens e ∷ moves) done.0) can.legal))
-  by fits (inr failed) =
-      here (IsLegal-last board (history moves) (CommandFailed a f failed.0)
-      (subst (λ ms. IsLegal board (history ms))
-      (fits.1 ∙ ap (λ e. Move.happens e ∷ moves) failed.1) can.legal)).0
-
 -- what the hardware tells posts nothing
 pub told-unsent : (report : Report) (b : ℕ) → is_sent_by b (told report) ≡ false
 told-unsent (Changed effect) b = refl
@@ -442,17 +372,6 @@ gives-told may g new report goes same posted commands =
           (λ b. refl) (told-unsent report) goes same posted commands board entries moves after
           can.fits guess can.fits;
     }
-
--- one that can't take it
-pub untaken-report : (may : Unseen) (g : Guess) (report : Report)
-    → ((h : List Event) → StandsAfter g.platform h
-    → ¬ (CanFollow g.platform.board h (told report)))
-    → GivesNot may g (Told report)
-untaken-report may g report cannot board entries moves after guess can =
-    cannot (history moves) guess.stands
-    (subst (λ b. CanFollow b (history moves) (told report)) (sym guess.of_board)
-    (IsLegal-last board (history moves) (told report)
-    (subst (λ ms. IsLegal board (history ms)) can.fits can.legal)))
 
 -- at the start nothing was posted, and no command is outstanding
 eight_none : (X : Type 0) → List (Option X)

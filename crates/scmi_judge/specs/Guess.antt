@@ -86,12 +86,6 @@ GivesNot may g entry =
     (board : Board) (entries : List Entry) (moves after : List Move)
     → IsGuess may board g entries moves → ¬ (CanShow may board entries moves entry after)
 
--- whatever one guess is, the other is as well
-abbrev pub IsSameGuess : Unseen → Guess → Guess → Type 0
-IsSameGuess may g new =
-    (board : Board) (entries : List Entry) (moves : List Move) → IsGuess may board g entries moves
-    → IsGuess may board new entries moves
-
 -- a guess is the platform of some history behind these entries
 abbrev pub IsReal : Unseen → Board → List Entry → Guess → Type 0
 IsReal may board entries g = (moves : List Move) × IsGuess may board g entries moves
