@@ -1,8 +1,8 @@
 -- The machine value of a handle.
-use Rattle.std.proofs.Common.{◌≡◌, ℕ, List, [], ◌∷◌, ◌++◌, refl, subst, lit<}
+use Rattle.std.proofs.Common.{◌≡◌, ℕ, List, [], ◌∷◌, ◌++◌, refl, subst}
 use lib.Dec.{T}
 use seplogic.Ra.Ura.{Ura}
-use mir.Syntax.{Ty, ty_ptr}
+use mir.Syntax.{Ty}
 use mir.Val.{Val, vstruct, vcons, vnil, of_list, has_ty, WT}
 use mir.Raw.{raw as bare}
 use base.Fml.{Fml}
@@ -36,10 +36,6 @@ word p = vstruct (vcons (ptr_val p) vnil)
 
 abbrev pub Good : Ty → Val → Type 0
 Good τ v = T (has_ty τ v) × WT v
-
-pub ptr_good : (p : Ptr) → Good ty_ptr (ptr_val p)
-ptr_good (block_ptr b o) = (tt, tt)
-ptr_good null_ptr = (tt, record { fits = lit< tt })
 
 -- who owns the box may compare its pointer with null
 tested : {M : Type 1} {𝓤 : Ura M} (𝓛 : Logic 𝓤) (a : Global) (p : Ptr) (x : (platform.the_row).Denot)

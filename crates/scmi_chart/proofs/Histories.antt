@@ -37,23 +37,6 @@ use Rattle.scmi_modes.specs.declared.kind.Kind.{Kind}
 use Rattle.scmi_modes.specs.declared.run_error.RunError.{RunError}
 use Rattle.scmi_chart.specs.History.{call_of, closes_from, closing_steps, command_steps, malformed_steps, receivers, refusal_steps, steps_after, steps_of_event, steps_of_run, taken_by, taking_steps}
 
--- the steps so far, with those of an event more
-pub event_more : (logs : List AgentLog) (sent sent' : List ℕ) (steps steps' all : List Step) (e : Event) (left left' : List Event) → left ≡ e ∷ left' → steps' ≡ steps ++ steps_of_event logs sent e → sent' ≡ sent ++ receivers e → steps ++ steps_after logs sent left ≡ all → steps' ++ steps_after logs sent' left' ≡ all
-event_more logs sent sent' steps steps' all e left left' first more posted so_far =
-    ap (λ xs. xs ++ steps_after logs sent' left') more
-    ∙ ap (λ s. (steps ++ steps_of_event logs sent e) ++ steps_after logs s left') posted
-    ∙ append_assoc steps (steps_of_event logs sent e) (steps_after logs (sent ++ receivers e) left')
-    ∙ ap (λ l. steps ++ steps_after logs sent l) (sym first)
-    ∙ so_far
-
--- the closes so far, with those of an agent more
-pub close_more : (a : ℕ) (steps steps' all : List Step) (log : AgentLog) (logs : List AgentLog) (left : List AgentLog) → left ≡ log ∷ logs → steps' ≡ steps ++ closing_steps a log → steps ++ closes_from a left ≡ all → steps' ++ closes_from (a + 1) logs ≡ all
-close_more a steps steps' all log logs left first more so_far =
-    ap (λ xs. xs ++ closes_from (a + 1) logs) more
-    ∙ append_assoc steps (closing_steps a log) (closes_from (a + 1) logs)
-    ∙ ap (λ l. steps ++ closes_from a l) (sym first)
-    ∙ so_far
-
 module _ (board : Board) where
   -- a step is of an agent of the board
   abbrev OfBoard : Step → Type 0

@@ -4,10 +4,9 @@ use Rattle.std.specs.List.{AllByRecursion}
 use Rattle.std.proofs.Common.{◌/◌, true, Some, Ok}
 use Rattle.std.proofs.lemmas.Bool.Decides.{nat_tests}
 use Rattle.scmi_codec.specs.Header.{HeaderFields, header_of}
-use Rattle.scmi_codec.specs.Area.{is_well_formed_within, length_at, header_at, frame_of, frame_within, waiting_within, StandsFor, StandsWithin}
+use Rattle.scmi_codec.specs.Area.{is_well_formed_within, length_at, header_at, frame_of, frame_within, waiting_within, StandsWithin}
 use Rattle.scmi_codec.specs.ChannelArea.{capacity, room_for}
 use Rattle.scmi_codec.specs.Word.{words_at, put_word, put_words}
-use Rattle.scmi_codec.specs.declared.area.TheConstants.{AREA_BYTES}
 use Rattle.scmi_codec.specs.declared.payload.TheConstants.{PAYLOAD_WORDS}
 use Rattle.scmi_codec.specs.declared.frame.Frame.{Frame}
 use Rattle.scmi_codec.specs.declared.frame.Frame.TheVariants.{Good}
@@ -112,9 +111,6 @@ StandsWithin-status most area status room small = record {
   status = word_at-put_word 0x04 status area (omega arith) small;
   frame = frame_within-same most area (put_word 0x04 status area) (λ k lo. get_or-put_word_above 0x04 status area k (omega arith) (omega arith));
 }
-
-pub StandsFor-status : (area : List ℕ) (status : ℕ) → length area ≡ AREA_BYTES → status < 2 ^ 32 → StandsFor (put_word 0x04 status area) status (frame_of area)
-StandsFor-status area status size small = StandsWithin-status PAYLOAD_WORDS area status (omega arith) small
 
 -- a posted message waits
 pub posted-waits : (most : ℕ) (area : List ℕ) (f : Frame) → StandsWithin most area 0 f → waiting_within most area ≡ Some f

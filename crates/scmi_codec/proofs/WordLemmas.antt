@@ -20,11 +20,6 @@ words_at-suc at (suc count) area =
 pub words_at-more : (at count : ℕ) (area : List ℕ) → words_at at (count + 1) area ≡ words_at at count area ++ word_at (at + 4 * count) area ∷ []
 words_at-more at count area = rw add-one (words_at-suc at count area)
 
-pub length-words_at : (at count : ℕ) (area : List ℕ) → length (words_at at count area) ≡ count
-unfolding words_at
-length-words_at at zero area = refl
-length-words_at at (suc count) area = ap suc (length-words_at (at + 4) count area)
-
 -- a word written at the end part of an area
 pub put_mid-put_word : (at word : ℕ) (area part : List ℕ) → at + 4 ≤ length area
     → part ≡ little_bytes 4 word ++ drop 4 (take (length area - at) (drop at area))

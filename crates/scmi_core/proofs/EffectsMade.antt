@@ -1,6 +1,6 @@
 -- The effects of one more event, and what hardware is asked for at it.
-use Rattle.std.proofs.Common.{◌≡◌, ◌<◌, ◌==◌, ℕ, Bool, true, false, List, [], ◌∷◌, ◌++◌, length, map, option_map, slice_get, Option, Some, None, Ok, refl, sym, ap, subst, ◌∙◌}
-use Rattle.std.specs.Option.{option_and_then, option_or, option_to_list}
+use Rattle.std.proofs.Common.{◌≡◌, ◌==◌, ℕ, Bool, true, false, List, [], ◌∷◌, ◌++◌, map, option_map, Option, Some, None, Ok, refl, sym, ap, subst, ◌∙◌}
+use Rattle.std.specs.Option.{option_to_list}
 use Rattle.std.specs.List.{All}
 use Rattle.std.proofs.lemmas.List.{append_assoc, append-nil, map-append}
 use Rattle.std.proofs.lemmas.List.Elements.{All-pop}
@@ -18,21 +18,18 @@ use Rattle.scmi_plan.specs.declared.effect.Effect.{Effect}
 use Rattle.scmi_core.specs.declared.event.Event.{Event}
 use Rattle.scmi_codec.specs.declared.fault.Fault.{Fault}
 use Rattle.scmi_plan.specs.declared.effect.Effect.TheVariants as effect
-use Rattle.scmi_core.specs.Deed.{fold_with_prefix, restarted_by, success_of}
-use Rattle.scmi_core.specs.Asked.{Asked, IsAsked, Made, Refused, and_asked, made_of}
+use Rattle.scmi_core.specs.Deed.{fold_with_prefix, success_of}
+use Rattle.scmi_core.specs.Asked.{Asked, Made, Refused, and_asked, made_of}
 use Rattle.scmi_core.specs.Driven.{HappensOn, HappensThere, HasMade, IsDriven, ask_after, asks, asks_from}
 use Rattle.scmi_core.specs.Standing.{Standing}
 use Rattle.scmi_clock.specs.ClockProtocol.{clock_effect}
 use Rattle.scmi_power.specs.PowerProtocol.{state_effect}
 use Rattle.scmi_core.specs.Effect.{commanded_effects, effect_after, effect_of, effects}
 use Rattle.scmi_core.specs.History.{deeds, deed_after}
-use Rattle.scmi_core.specs.Value.{Change, bit_value, change_by, change_of, changes, commanded_by, commanded_changes, completion}
-use Rattle.scmi_core.specs.Legal.{IsLegal}
+use Rattle.scmi_core.specs.Value.{Change, bit_value, change_by, change_of, changes, commanded_by, commanded_changes}
 use Rattle.scmi_core.specs.Plain.{IsNoReport}
-use Rattle.scmi_core.specs.Pending.{Unwanted, acceptance, is_advance, pending_change, pending_left, pending_sets}
-use Rattle.scmi_core.specs.declared.pending_set.PendingSet.{PendingSet}
-use Rattle.scmi_core.proofs.Deeds.{added_success, changes-push, commanded_changes-push, pending_sets-push}
-use Rattle.scmi_core.proofs.Legal.{Grown, advances_le-accepted, deed-event, deeds-push, empty, grow, grown}
+use Rattle.scmi_core.proofs.Deeds.{changes-push, commanded_changes-push}
+use Rattle.scmi_core.proofs.Legal.{Grown, deeds-push, empty, grow, grown}
 use Rattle.scmi_core.proofs.Steps.{change-power, state_change}
 use Rattle.scmi_core.proofs.ClockSteps.{change-clock, either}
 
@@ -132,10 +129,6 @@ made_of-append [] ys = refl
 made_of-append (Made effect ∷ xs) ys = ap (λ zs. effect ∷ zs) (made_of-append xs ys)
 made_of-append (Refused effect fault ∷ xs) ys = made_of-append xs ys
 
--- a driver that keeps a list of what it made, if it makes one more change, and if it refuses one
-pub makes-one : (effect : Effect) (old new : List Effect) → new ≡ old ++ effect ∷ [] → IsAsked (λ asks. made_of asks ≡ old) (Some (Made effect)) (λ asks. made_of asks ≡ new)
-makes-one effect old new is = λ asks has. made_of-append asks (Made effect ∷ []) ∙ ap (λ ys. ys ++ effect ∷ []) has ∙ sym is
-
 made : (o : Option Effect) → made_of (option_to_list (option_map Made o)) ≡ option_to_list o
 made None = refl
 made (Some effect) = refl
@@ -213,23 +206,3 @@ clock-effect board a header c reply =
       mapped None None = refl
       mapped None (Some set) = ap (λ b. Some (effect.Enabled set.0 b)) (bit_back set.1)
       mapped (Some set) enabled = refl
-
--- the first of some sets stays the first, and a restart leaves what it is to change
-first-kept : (restarted : Option ℕ) (xs ys : List PendingSet) → 0 < length xs → option_map completion (slice_get (pending_left (option_map Unwanted restarted) xs ++ ys) 0) ≡ option_map completion (slice_get xs 0)
-first-kept None [] ys some = elim some [ ]
-first-kept None (x ∷ xs) ys some = refl
-first-kept (Some a) [] ys some = elim some [ ]
-first-kept (Some a) (x ∷ xs) ys some = refl
-
--- while a set is pending, no other event but a promotion and a settled rate changes what the next completion is to change
-pub advance-kept : (board : Board) (h : List Event) (e : Event) → IsLegal board h → is_advance e ≡ false → pending_change e ≡ option_map Unwanted (restarted_by e) → 0 < length (pending_sets board (deeds board h))
-    → effect_after board (h ++ e ∷ []) Advance ≡ effect_after board h Advance
-advance-kept board h e legal other unchanged some =
-    let ds = deeds board h in
-    let deed = deed_after board ds e in
-    ap (λ ds'. option_map effect_of (option_or (option_map completion (slice_get (pending_sets board ds') 0)) None)) (deeds-push board h e)
-    ∙ ap (λ p. option_map effect_of (option_or (option_map completion (slice_get p 0)) None))
-    (pending_sets-push board ds deed (ap is_advance (deed-event board ds e) ∙ other) (advances_le-accepted board h legal))
-    ∙ ap (λ change. option_map effect_of (option_or (option_map completion (slice_get (pending_left change (pending_sets board ds) ++ option_to_list (option_and_then (acceptance board) (added_success board deed))) 0)) None))
-    (ap pending_change (deed-event board ds e) ∙ unchanged)
-    ∙ ap (λ o. option_map effect_of (option_or o None)) (first-kept (restarted_by e) (pending_sets board ds) (option_to_list (option_and_then (acceptance board) (added_success board deed))) some)

@@ -17,8 +17,3 @@ mapped-more f zero [] d inside = elim inside [ ]
 mapped-more f zero (x ∷ xs) d inside = refl
 mapped-more f (suc i) [] d inside = elim inside [ ]
 mapped-more f (suc i) (x ∷ xs) d inside = ap (λ ys. f x ∷ ys) (mapped-more f i xs d (omega (arith, inside)))
-
--- in the end all are
-pub mapped-all : {X : Type 0} (f : X → X) (xs : List X) → mapped_to f (length xs) xs ≡ map f xs
-mapped-all f [] = refl
-mapped-all f (x ∷ xs) = ap (λ ys. f x ∷ ys) (mapped-all f xs)

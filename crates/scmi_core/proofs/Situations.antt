@@ -30,7 +30,7 @@ use Rattle.scmi_core.specs.Deed.{Deed}
 use Rattle.scmi_core.specs.Value.{Change, Thing, State, Rate, Enabled, bit_value}
 use Rattle.scmi_core.specs.Pending.{has_room_beside, has_set_of, pending_sets, sets_by}
 use Rattle.scmi_core.specs.Situation.{Situation, has_room, power_view, clock_view}
-use Rattle.scmi_core.specs.Outbox.{messages_left, messages_made, made_in, notice_in, outbox_after, response_for, sent_count, situation_after, state_changed}
+use Rattle.scmi_core.specs.Outbox.{messages_made, made_in, notice_in, outbox_after, response_for, sent_count, situation_after, state_changed}
 use Rattle.scmi_core.specs.ReadCommand.{command_on}
 use Rattle.scmi_core.specs.Reply.{answer_in, fits_channel, reply_words, words_given}
 use Rattle.scmi_core.specs.Tables.{IsThing, situation_in}
@@ -59,16 +59,6 @@ messages_made-sent board a h b =
     messages_made-push board a h deed
     ∙ ap (λ ys. messages_made board a h ++ ys) (nothing-made a (situation_after board a h) (pending_sets board (h ++ deed ∷ [])))
     ∙ append-nil (messages_made board a h)
-
--- and a restart, which drops what was not posted of its own agent's
-pub messages_made-restarted : (board : Board) (a : ℕ) (h : List Deed) (b : ℕ)
-    → messages_made board a (h ++ record { event = Restarted b; reply = [] } ∷ []) ≡ messages_left (sent_count a h) (a == b) (messages_made board a h)
-messages_made-restarted board a h b =
-    let deed : Deed = record { event = Restarted b; reply = [] } in
-    let left = messages_left (sent_count a h) (a == b) (messages_made board a h) in
-    messages_made-push board a h deed
-    ∙ ap (λ ys. left ++ ys) (nothing-made a (situation_after board a h) (pending_sets board (h ++ deed ∷ [])))
-    ∙ append-nil left
 
 pub outbox-restarted : (board : Board) (a : ℕ) (h : List Deed) (b : ℕ) → sent_count a h ≤ length (messages_made board a h)
     → outbox_after board a (h ++ record { event = Restarted b; reply = [] } ∷ []) ≡ (if a == b then [] else outbox_after board a h)

@@ -74,11 +74,6 @@ ordered-cells Straight cells = refl
 ordered-cells Turned cells = refl
 ordered-cells Unclear cells = ap (λ b. if b then Some (bytes_in false cells) else None) (alike-cells cells)
 
-pub ordered-none : (o : Order) → ordered_bytes o None None ≡ None
-ordered-none Straight = refl
-ordered-none Turned = refl
-ordered-none Unclear = refl
-
 -- turned twice, bytes are as they were
 pub reversed_twice : (bytes : List ℕ) → reverse (reverse bytes) ≡ bytes
 reversed_twice bytes = list.reverse-reverse bytes

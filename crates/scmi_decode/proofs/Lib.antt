@@ -4,7 +4,7 @@ pub mod SameDescription
 mod Forms
 mod FoundSoFar
 mod Items
-mod Messages
+mod MessageExamples
 mod OneDump
 mod Reporting
 pub mod Reported

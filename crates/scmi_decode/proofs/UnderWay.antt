@@ -1,15 +1,14 @@
 -- What was reported while an input is read line by line.
-use Rattle.std.proofs.Common.{◌≡◌, ℕ, ◌+◌, ◌<◌, ◌≤◌, Bool, not, true, false, List, [], ◌∷◌, length, Option, None, Some, IfSome, ◌∙◌, sym, ap, subst, arith, length-drop}
+use Rattle.std.proofs.Common.{◌≡◌, ℕ, ◌+◌, ◌<◌, ◌≤◌, Bool, true, false, List, [], ◌∷◌, length, Option, None, Some, IfSome, ◌∙◌, sym, ap, subst, arith, length-drop}
 use Rattle.std.specs.Prelude.{◌||◌}
 use Rattle.std.specs.List.{slice_split, position_or_len}
 use Rattle.std.proofs.lemmas.Bool.Decides.{nat_tests}
 use Rattle.std.proofs.lemmas.List as list
 use Rattle.std.proofs.lemmas.List.Splits.{slice_split_first, slice_split_none}
-use Rattle.std.proofs.lemmas.List.Sums.{fails_before_first, prefix_len-le-length}
-use Rattle.scmi_io.specs.declared.input.TheConstants.{INPUT_BYTES}
+use Rattle.std.proofs.lemmas.List.Sums.{fails_before_first}
 use Rattle.scmi_io.specs.Lines.{is_line_feed, first_line, after_line, has_line_feed}
 use Rattle.scmi_decode.proofs.Reported.{reported_trans}
-use Rattle.scmi_decode.specs.OpenDump.{DumpView, no_dump, closed, dump_found}
+use Rattle.scmi_decode.specs.OpenDump.{DumpView, closed, dump_found}
 use Rattle.scmi_decode.specs.Reported.{Reported}
 use Rattle.scmi_decode.specs.declared.finding.Finding.{Finding}
 use Rattle.scmi_decode.specs.declared.layout.Layout.{Layout}
@@ -29,12 +28,6 @@ IsUnderWay l None left d n old now = Unit {0}
 IsUnderWay l (Some input) None d n old now = ⊥
 IsUnderWay l (Some input) (Some rest) d n old now = IsOnItsWay l input rest d n old now
 
-pub at_begin : (l : Layout) (whole : Option (List ℕ)) (d : DumpView) (old : Option (List Finding)) → d ≡ no_dump l → IsUnderWay l whole whole d 1 old old
-at_begin l None d old e = tt
-at_begin l (Some input) d old e = record {
-  taken = λ end h. subst (λ (v : DumpView). Reported old end (lines_found v 1 (slice_split is_line_feed input))) e h;
-  found = ap (λ (v : DumpView). v.found || any_area (lines_found v 1 (slice_split is_line_feed input))) e;
-  size = omega arith;
 }
 
 has_feed : (rest : List ℕ) → true ≡ has_line_feed rest → position_or_len is_line_feed rest < length rest
@@ -103,21 +96,3 @@ at_end l (Some input) None line d d' d'' n ended old now now' end way first feed
 at_end l (Some input) (Some rest) line d d' d'' n ended old now now' end way first feed is_last wrote after last done =
     let parts = at_last l input rest line d d' n old now now' end way first (sym is_last ∙ feed) wrote after last in
     (parts.0, ap (λ (v : DumpView). v.found) done ∙ parts.1)
-
--- a line that is too long
-long_line : (input rest : List ℕ) (n : ℕ) → 1 ≤ n → n + length rest ≤ length input + 1 → INPUT_BYTES < length (first_line rest) → INPUT_BYTES < length input
-long_line input rest n first size long =
-    let inside = prefix_len-le-length (λ x. not (is_line_feed x)) rest in
-    omega (arith, first, size, long, inside, list.length-take-le (position_or_len is_line_feed rest) rest inside)
-
-pub too_long : (l : Layout) (whole left : Option (List ℕ)) (d : DumpView) (n : ℕ) (old now : Option (List Finding)) → IsUnderWay l whole left d n old now → 1 ≤ n
-    → IfSome left (λ rest. INPUT_BYTES < length (first_line rest)) → IfSome whole (λ input. INPUT_BYTES < length input)
-too_long l None left d n old now way first long = tt
-too_long l (Some input) None d n old now way first long = absurd way
-too_long l (Some input) (Some rest) d n old now way first long = long_line input rest n first way.size long
-
--- more lines than are counted
-pub too_many : (l : Layout) (whole left : Option (List ℕ)) (d : DumpView) (n : ℕ) (old now : Option (List Finding)) → IsUnderWay l whole left d n old now → INPUT_BYTES + 1 < n → IfSome whole (λ input. INPUT_BYTES < length input)
-too_many l None left d n old now way many = tt
-too_many l (Some input) None d n old now way many = absurd way
-too_many l (Some input) (Some rest) d n old now way many = omega (arith, way.size, many)

@@ -1,5 +1,5 @@
 -- A line that is read piece by piece.
-use Rattle.std.proofs.Common.{◌≡◌, ℕ, ◌+◌, ◌<◌, ◌≤◌, not, Bool, true, false, List, [], ◌∷◌, ◌++◌, length, get_or, take, drop, Option, None, Some, IfNone, IfSome, sym, ◌∙◌, ap, refl, arith}
+use Rattle.std.proofs.Common.{◌≡◌, ℕ, ◌+◌, ◌<◌, ◌≤◌, not, Bool, true, false, List, [], ◌∷◌, ◌++◌, length, get_or, take, drop, Option, None, Some, IfNone, IfSome, sym, ◌∙◌, ap, arith}
 use Rattle.std.specs.Prelude.{nat_lt, ◌==◌}
 use Rattle.std.specs.List.{position_or_len}
 use Rattle.std.specs.Option.{IsSomeAnd}
@@ -130,10 +130,6 @@ if_further (Some input) (Some rest) bytes bytes' line line' keeps none after is 
 abbrev pub Underway : Option (List ℕ) → Option (List ℕ) → List ℕ → Type 0
 Underway known left line = IfSome known (λ input. IsSomeAnd left (λ rest. IsFurther input [] rest line))
 
-pub at_start : (known : Option (List ℕ)) (line : List ℕ) → line ≡ [] → Underway known known line
-at_start None line is = tt
-at_start (Some input) line is = rw is (refl, refl, refl)
-
 pub underway : (known left left' : Option (List ℕ)) (line line' : List ℕ) → Underway known left line → IfSome left (λ input. IsSomeAnd left' (λ rest. IsFurther input line rest line')) → Underway known left' line'
 underway None left left' line line' before next = tt
 underway (Some input) None left' line line' before next = absurd before
@@ -144,16 +140,6 @@ pub line_whole : (known left : Option (List ℕ)) (line line' : List ℕ) → Un
 line_whole None left line line' before is = tt
 line_whole (Some input) None line line' before is = absurd before
 line_whole (Some input) (Some rest) line line' (first, after, ended) is = is ∙ sym first
-
-pub rest_whole : (known left left' : Option (List ℕ)) (line : List ℕ) → Underway known left line → IfSome left (λ input. left' ≡ Some (after_line input)) → IfSome known (λ input. left' ≡ Some (after_line input))
-rest_whole None left left' line before is = tt
-rest_whole (Some input) None left' line before is = absurd before
-rest_whole (Some input) (Some rest) left' line (first, after, ended) is = is ∙ ap (λ (xs : List ℕ). Some xs) (sym after)
-
-pub ended_whole : (known left : Option (List ℕ)) (line : List ℕ) (has : Bool) → Underway known left line → IfSome left (λ input. has ≡ has_line_feed input) → IfSome known (λ input. has ≡ has_line_feed input)
-ended_whole None left line has before is = tt
-ended_whole (Some input) None line has before is = absurd before
-ended_whole (Some input) (Some rest) line has (first, after, ended) is = is ∙ sym ended
 
 -- a line that is under way is no longer than the first line of the input
 pub at_least : (known left : Option (List ℕ)) (line : List ℕ) (n : ℕ) → Underway known left line → n < length line → IfSome known (λ input. n < length (first_line input))

@@ -1,6 +1,6 @@
 -- What a listener was given of the first lines of an input.
-use Rattle.std.proofs.Common.{◌≡◌, ℕ, ◌+◌, ◌^◌, ◌<◌, ◌≤◌, ◌⊎◌, Bool, true, false, List, [], ◌∷◌, ◌++◌, length, Option, None, Some, Result, Ok, Err, IfErr, IfSome, OnErr, ◌∙◌, refl, sym, ap, subst, inl, inr, append_assoc, length-append, arith}
-use Rattle.std.specs.Prelude.{⊤, IsErrOf}
+use Rattle.std.proofs.Common.{◌≡◌, ℕ, ◌+◌, ◌^◌, ◌<◌, ◌≤◌, ◌⊎◌, Bool, true, false, List, [], ◌∷◌, ◌++◌, length, Option, None, Some, Result, Ok, Err, IfSome, OnErr, ◌∙◌, refl, sym, ap, subst, inl, inr, append_assoc, length-append, arith}
+use Rattle.std.specs.Prelude.{⊤}
 use Rattle.std.specs.List.{AllPass, slice_split}
 use Rattle.std.proofs.lemmas.List.{append-nil}
 use Rattle.std.proofs.lemmas.List.Elements.{All-append, All-cons, All-nil}
@@ -18,10 +18,7 @@ use Rattle.scmi_text.specs.declared.step.Step.{Step}
 use Rattle.scmi_text.specs.declared.step_line.StepLine.{StepLine}
 use Rattle.scmi_live.specs.Heard.{Gives, Heard, MayGive}
 use Rattle.scmi_live.specs.Live.{AllGoOn, Answers, AnswersAs, AreFirstAnswered, IsAnswered, IsSession, IsStep, IsStopped, IsStoppedBefore, IsTooMuch, LiveView, MakesStep, Refuses, RefusesEnd, RefusesStep, StopsAt, at_end, goes_on, step_then, steps_of, with_lines}
-use Rattle.scmi_live.specs.LiveError.{IsRefused}
 use Rattle.scmi_live.specs.Meant.{line_meant}
-use Rattle.scmi_live.specs.declared.live_error.LiveError.{LiveError}
-use Rattle.scmi_live.specs.declared.live_error.LiveError.TheVariants.{Read, Size}
 use Rattle.scmi_live.specs.declared.meant.Meant.{Meant}
 use Rattle.scmi_live.specs.declared.meant.Meant.TheVariants.{Describe, Does, Help, Nothing, Quit, Unknown}
 use Rattle.scmi_live.proofs.NewSession.{new_session}
@@ -349,10 +346,3 @@ module _ (full : Bool) (Shows : CallerView → Result Closing CloseError → Typ
       → IfSome whole (λ input. IsStoppedBefore full Shows (λ _ _. ⊤) said input old new)
   before_any_of Is said None old new stopped = tt
   before_any_of Is said (Some input) old new stopped = record { first = stopped.first; line = stopped.line; others = stopped.others; split = stopped.split; on = stopped.on; is = tt; answered = stopped.answered }
-
--- memory and the output are no fault of the input
-pub no_size : (r : Result (Unit {0}) LiveError) → IfErr r IsRefused → IsErrOf r Size → ⊥
-no_size r refused e = subst (λ r. IfErr r IsRefused) e refused
-
-pub no_read : (r : Result (Unit {0}) LiveError) → IfErr r IsRefused → IsErrOf r Read → ⊥
-no_read r refused e = subst (λ r. IfErr r IsRefused) e refused

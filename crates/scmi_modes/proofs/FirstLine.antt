@@ -122,12 +122,3 @@ pub where_plain : {T E : Type 0} (r : Result T E) (taken : Modes) (known : Optio
     → OnOk r (taken ≡ modes.Plain → NamesNoHardware known)
 where_plain (Err e) taken known m kept first is takes = tt
 where_plain (Ok x) taken known m kept first is takes = λ plain. names_none known m kept first is (subst (λ q. Takes q m) plain takes)
-
--- a line that names no mode of these
-pub none_of_plain : (line : List ℕ) → ((mode : Mode) → ¬ (line ≡ text_of mode)) → (mode : AnyMode) → Takes modes.Plain mode → ¬ (line ≡ any_text_of mode)
-none_of_plain line none (any.Plain mode) takes = none mode
-none_of_plain line none (any.Hardware kind) takes = absurd takes
-
-pub none_of_all : (line : List ℕ) → ((mode : Mode) → ¬ (line ≡ text_of mode)) → ((kind : Kind) → ¬ (line ≡ hardware_text kind)) → (mode : AnyMode) → Takes modes.ForPeople mode → ¬ (line ≡ any_text_of mode)
-none_of_all line none no_kind (any.Plain mode) takes = none mode
-none_of_all line none no_kind (any.Hardware kind) takes = no_kind kind

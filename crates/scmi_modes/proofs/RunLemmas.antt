@@ -1,13 +1,11 @@
 -- What is written of a run.
-use Rattle.std.proofs.Common.{◌≡◌, ℕ, Bool, ◌+◌, ◌<◌, ◌≤◌, List, [], ◌∷◌, ◌++◌, length, take, drop, get_or, Option, Some, None, Result, Ok, Err, refl, sym, ap, ◌∙◌, subst, arith, append_assoc, ◌⊎◌, inl, inr}
-use Rattle.std.specs.List.{All, flat_map}
+use Rattle.std.proofs.Common.{◌≡◌, ℕ, Bool, ◌+◌, ◌<◌, ◌≤◌, List, [], ◌∷◌, ◌++◌, length, take, drop, get_or, Option, Some, None, Result, Ok, Err, sym, ap, ◌∙◌, subst, arith, append_assoc, ◌⊎◌, inl, inr}
+use Rattle.std.specs.List.{flat_map}
 use Rattle.std.specs.Prelude.{OnOk}
 use Rattle.std.specs.Io.KnownBytes.{Appends}
 use Rattle.std.proofs.lemmas.List.Elements.{All-take}
 use Rattle.std.proofs.lemmas.List.{append-nil, take_more, take_all, length-take, take-append-drop}
 use Rattle.scmi_threads.specs.declared.agent_log.AgentLog.{AgentLog}
-use Rattle.scmi_threads.specs.declared.stop.Stop.{Stop}
-use Rattle.scmi_threads.specs.declared.stop.Stop.TheVariants as stop
 use Rattle.scmi_text.specs.ScriptLine.{lines_text}
 use Rattle.scmi_text.specs.Step.{IsWithoutHardware}
 use Rattle.scmi_text.specs.StepLine.{step_text}
@@ -46,18 +44,6 @@ logs_step a b c ls i l below is h k =
     let taken : take i ls ++ l ∷ [] ≡ take (i + 1) ls = ap (λ x. take i ls ++ x ∷ []) is ∙ sym (take_more ls i l below) in
     subst (Appends a c) (sym (logs_push 1 (take i ls) l) ∙ ap (logs_text 1) taken)
     (written_then a b c (logs_text 1 (take i ls)) (lines_text (1 + length (take i ls)) l.lines.items) h (subst (λ m. Appends b c (lines_text m l.lines.items)) number k))
-
-pub logs_done : (a b : Option (List ℕ)) (ls : List AgentLog) (i : ℕ) → length ls ≤ i → Appends a b (logs_text 1 (take i ls)) → Appends a b (logs_text 1 ls)
-logs_done a b ls i all h = subst (λ xs. Appends a b (logs_text 1 xs)) (take_all i ls all) h
-
--- a log that was stopped for neither reason was not stopped
-one_runs : (o : Option Stop) → ¬ (o ≡ Some stop.Memory) → ¬ (o ≡ Some stop.Limit) → o ≡ None
-one_runs None m l = refl
-one_runs (Some stop.Limit) m l = absurd (l refl)
-one_runs (Some stop.Memory) m l = absurd (m refl)
-
-pub none_stopped : (logs : List AgentLog) → All (λ log. ¬ (log.stopped ≡ Some stop.Memory)) logs → All (λ log. ¬ (log.stopped ≡ Some stop.Limit)) logs → All (λ log. log.stopped ≡ None) logs
-none_stopped logs m l = λ k d below. one_runs (get_or logs k d).stopped (m k d below) (l k d below)
 
 pub on_ok : {A E : Type 0} (P Q : Type 0) (r : Result A E) → OnOk r P → (P → Q) → OnOk r Q
 on_ok P Q (Ok x) p f = f p

@@ -167,12 +167,6 @@ pub all_end_at_close : (full : Bool) (orders : ℕ → List Order) (board : Boar
 all_end_at_close full orders board h a [] scripts headlines = tt
 all_end_at_close full orders board h a (log ∷ logs) scripts headlines = (done_at_close full (orders a) board h a log scripts.0 headlines.0, all_end_at_close full orders board h (a + 1) logs scripts.1 headlines.1)
 
--- a call after the close posts nothing: a log with its frame follows no script that closes before it
-pub no_call_after_close : (full : Bool) (orders : List Order) (log : AgentLog) → IsScriptLog full (order.Close ∷ orders) log → log.posted.items ≡ []
-no_call_after_close full orders log script = script.made.posted ∙ go log.stopped script.parts script.follows where
-  close_ended : (why : Stop) (part : Part) → CloseWrites (Some why) part → flat_map (λ p. p.posted) (part ∷ []) ≡ []
-  close_ended _ _ close_had_no_room = refl
-
   closed_first : (part : Part) → CloseWrites None part → part.posted ≡ []
   closed_first _ close_done = refl
 

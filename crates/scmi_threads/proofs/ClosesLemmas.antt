@@ -1,17 +1,14 @@
 -- What the answer of the first close says, after each call.
-use Rattle.std.proofs.Common.{◌≡◌, ℕ, length, arith, Bool, true, false, not, ◌||◌, Option, Some, None, Ok, refl, sym, ap, ◌∙◌, rules}
+use Rattle.std.proofs.Common.{◌≡◌, ℕ, Bool, true, false, not, ◌||◌, Option, Some, None, Ok, refl, sym, ap, ◌∙◌, rules}
 use Rattle.std.specs.Option.{option_or}
 use Rattle.scmi_link.specs.View.{CallerView, CalleeView, IsOutstanding, callee_knows_close, one_more}
-use Rattle.scmi_link.specs.Calls.{with_word, IsRefused, RefusesPost, ClosesCaller}
-use Rattle.scmi_link.specs.declared.post_error.PostError.{PostError}
-use Rattle.scmi_link.specs.declared.post_error.PostError.TheVariants as post
+use Rattle.scmi_link.specs.Calls.{with_word, IsRefused, ClosesCaller}
 use Rattle.scmi_link.specs.declared.closing.Closing.{Closing}
 use Rattle.scmi_link.specs.declared.closing.Closing.TheVariants.{Idle, Withdrawn}
 use Rattle.scmi_link.specs.declared.collected.Collected.{Collected}
 use Rattle.scmi_link.specs.declared.collected.Collected.TheVariants as collected
 use Rattle.scmi_ends.specs.Poll.{Waits}
 use Rattle.scmi_threads.specs.Closes.{IsClosedAs}
-use Rattle.scmi_threads.specs.Orders.{IsRefusal}
 
 not_both : {b : Bool} → b ≡ true → b ≡ false → ⊥
 not_both {b} t f = search (rules, t, f)
@@ -23,18 +20,6 @@ neither true c h = absurd (not_both refl h)
 -- an end that takes a message has not closed
 pub takes_open : (v : CallerView) (d : CalleeView) → d.closed ≡ v.closed → callee_knows_close d ≡ false → v.closed ≡ false
 takes_open v d same is = sym same ∙ neither d.closed d.told is
-
-by_word : (told closed : Bool) → (told || not closed) ≡ false → closed ≡ true
-by_word told true h = refl
-by_word true false h = absurd (not_both refl h)
-by_word false false h = absurd (not_both refl h)
-
--- a post that is refused, of an agent at rest that nothing has disturbed
-pub refusal_of : (full : Bool) (error : PostError) (v w : CallerView) → RefusesPost full v error w → length v.posted ≡ length v.read → w.told ≡ false → IsRefusal full v.closed error
-refusal_of full post.Outstanding v w r rest told = absurd (omega (arith, rest, r.0.unread))
-refusal_of full post.Closed v w r rest told = by_word v.told v.closed (sym (ap (λ u. u.told) r.1.told) ∙ told)
-refusal_of full post.Full v w r rest told = (neither v.closed v.told r.unclosed, r.may)
-refusal_of full post.WellFormed v w r rest told = absurd r
 
 -- the endpoint is open, and neither closes nor is notified of a close
 pub stays_open : (closing : Option Closing) (v w : CallerView) → v.closed ≡ false → w.closed ≡ v.closed → w.told ≡ v.told → w.left ≡ v.left → IsClosedAs closing v → IsClosedAs closing w

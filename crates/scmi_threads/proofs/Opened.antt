@@ -1,7 +1,7 @@
 -- The platform's ends stay open through a round.
-use Rattle.std.proofs.Common.{◌≡◌, ℕ, zero, suc, ◌-◌, Bool, false, List, [], ◌∷◌, get_or, replicate, refl, sym, ap, ◌∙◌, subst}
+use Rattle.std.proofs.Common.{◌≡◌, ℕ, zero, suc, ◌-◌, Bool, false, List, [], ◌∷◌, get_or, refl, sym, ap, ◌∙◌, subst}
 use Rattle.std.specs.List.{All}
-use Rattle.std.proofs.lemmas.List.Elements.{All-head, All-tail, All-set, All-replicate}
+use Rattle.std.proofs.lemmas.List.Elements.{All-head, All-tail, All-set}
 use Rattle.scmi_link.specs.View.{CalleeView, new_callee}
 use Rattle.scmi_link.specs.declared.served.Served.{Served}
 use Rattle.scmi_link.specs.declared.served.Served.TheVariants as served
@@ -31,7 +31,3 @@ serves_on_open a c b r c' b' s o = subst (λ ds. All is_open ds) (sym (ap (λ u.
 
 pub flushes_open : (full : Bool) (a : ℕ) (c c' : ControllerView) (r : Flushed) → Flushes full a c r c' → IsOpenToAll c → IsOpenToAll c'
 flushes_open full a c c' r s o = subst (λ ds. All is_open ds) (sym (ap (λ u. u.callees) s.same)) o
-
--- the platform's endpoints as they are made
-pub new_open : (n : ℕ) → All is_open (replicate n new_callee)
-new_open n = All-replicate is_open n new_callee refl

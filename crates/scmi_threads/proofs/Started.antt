@@ -1,9 +1,9 @@
 -- Agents that sit down each to its own script, and their logs.
-use Rattle.std.proofs.Common.{◌≡◌, ℕ, ◌+◌, ◌<◌, ◌≤◌, List, [], ◌∷◌, ◌++◌, length, map, get_or, drop, sym, ap, ◌∙◌, subst, arith, append_assoc, if◌then◌else◌}
-use Rattle.std.proofs.lemmas.Bool.{eq-eqb, ne_eqb}
+use Rattle.std.proofs.Common.{◌≡◌, ℕ, ◌+◌, ◌<◌, List, [], ◌∷◌, ◌++◌, length, map, get_or, drop, sym, ap, ◌∙◌, subst, arith, append_assoc, if◌then◌else◌}
+use Rattle.std.proofs.lemmas.Bool.{eq-eqb}
 use Rattle.std.specs.Prelude.{remove}
 use Rattle.std.specs.List.{All, AllZip}
-use Rattle.std.proofs.lemmas.List.{append-nil, drop_more, drop_all}
+use Rattle.std.proofs.lemmas.List.{append-nil, drop_more}
 use Rattle.std.proofs.lemmas.List.Elements.{All-head, All-tail}
 use Rattle.scmi_link.specs.Scripts.{orders_of}
 use Rattle.scmi_link.specs.declared.script.Script.{Script}
@@ -22,16 +22,6 @@ found ss i agent s below is same so_far =
     ∙ ap (λ x. orders_of (x ∷ drop (i + 1) ss) agent) is
     ∙ ap (λ xs. orders_of xs agent) (sym (drop_more ss i s below))
     ∙ so_far
-
-pub not_found : (ss : List Script) (i agent : ℕ) (s : Script) → i < length ss → s ≡ get_or ss i s → (s.agent ≡ agent → ⊥) → orders_of (drop i ss) agent ≡ orders_of ss agent → orders_of (drop (i + 1) ss) agent ≡ orders_of ss agent
-not_found ss i agent s below is differ so_far =
-    sym (ap (λ own. if own then s.lines.items else orders_of (drop (i + 1) ss) agent) (ne_eqb s.agent agent differ))
-    ∙ ap (λ x. orders_of (x ∷ drop (i + 1) ss) agent) is
-    ∙ ap (λ xs. orders_of xs agent) (sym (drop_more ss i s below))
-    ∙ so_far
-
-pub none_found : (ss : List Script) (i agent : ℕ) → length ss ≤ i → orders_of (drop i ss) agent ≡ orders_of ss agent → [] ≡ orders_of ss agent
-none_found ss i agent all so_far = sym (ap (λ xs. orders_of xs agent) (drop_all i ss all)) ∙ so_far
 
 -- numbered items
 
