@@ -7,7 +7,8 @@ use Rattle.scmi_codec.specs.declared.frame.Frame.{Frame}
 use Rattle.scmi_plan.specs.Board.{Board}
 use Rattle.scmi_core.specs.Asked.{Asked, Made, Refused, and_asked}
 use Rattle.scmi_core.specs.Driven.{ask_after, asks, asks_from}
-use Rattle.scmi_core.specs.Effect.{effect_after, effect_of, setting_effect}
+use Rattle.scmi_core.specs.Commands.{setting_effect}
+use Rattle.scmi_core.specs.Effect.{effect_after, effect_of}
 use Rattle.scmi_core.specs.Standing.{Standing, StandsAfter}
 use Rattle.scmi_core.specs.History.{HasPendingAt, IsIdle, deeds}
 use Rattle.scmi_core.specs.Pending.{pending_sets}

@@ -46,7 +46,7 @@ use Rattle.scmi_core.specs.History.{deed_after, deeds}
 use Rattle.scmi_core.specs.Legal.{IsLegal}
 use Rattle.scmi_core.specs.Outbox.{situation_after}
 use Rattle.scmi_core.specs.Pending.{acceptance, has_set_of, is_set_by, promoted, rate_set, setting_with, settled, state_set}
-use Rattle.scmi_core.specs.Permissions.{permission_in}
+use Rattle.scmi_core.specs.Commands.{permission_in}
 use Rattle.scmi_core.specs.ReadCommand.{command_on, lacks_protocol}
 use Rattle.scmi_core.specs.Reply.{fits_channel, reply_words, words_given}
 use Rattle.scmi_core.specs.Situation.{Situation, clock_view, power_view}

@@ -1,6 +1,6 @@
 //! What waits in a platform: pending sets and messages.
 ghost use Rattle.std.specs.Prelude.{◌≡◌, ◌≢◌, ◌↔◌, ◌⊎◌, ◌≤◌, None, IsSomeAnd, IfSome, List, length, slice_get};
-ghost use Rattle.scmi_core.specs.Effect.{setting_effect};
+ghost use Rattle.scmi_core.specs.Commands.{setting_effect};
 ghost use Rattle.scmi_core.specs.History.{deeds, outbox};
 ghost use Rattle.scmi_core.specs.Pending.{pending_sets};
 ghost use Rattle.scmi_core.specs.Standing.{StandsAfter};

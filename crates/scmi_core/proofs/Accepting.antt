@@ -6,26 +6,21 @@ use Rattle.std.proofs.lemmas.List.Elements.{All-cons, All-nil}
 use Rattle.scmi_codec.specs.Header.{HeaderFields}
 use Rattle.scmi_codec.specs.Payload.{begins_with_success}
 use Rattle.scmi_codec.specs.declared.command.Command as codec
-use Rattle.scmi_codec.specs.declared.command.Command.TheVariants.{Base, Power, Clock}
 use Rattle.scmi_codec.specs.declared.status.Status.{Status}
 use Rattle.scmi_plan.specs.Board.{Board, channel_of}
-use Rattle.scmi_power.specs.PowerProtocol.{state_effect}
-use Rattle.scmi_power.specs.PowerTable.{set_later}
-use Rattle.scmi_power.proofs.PowerLaws.{power_laws}
-use Rattle.scmi_clock.specs.ClockProtocol.{later_effect}
-use Rattle.scmi_clock.specs.ClockTable.{rate_later}
-use Rattle.scmi_clock.proofs.ClockLaws.{clock_laws}
+use Rattle.scmi_core.specs.Commands.{later_effect_of, later_of, setting_effect}
 use Rattle.scmi_core.specs.Deed.{Success, success_with}
-use Rattle.scmi_core.specs.Pending.{acceptance}
+use Rattle.scmi_core.specs.Pending.{acceptance, set_of}
 use Rattle.scmi_core.specs.Reply.{reply_words}
-use Rattle.scmi_core.specs.Situation.{Situation, clock_view, has_room, power_view}
+use Rattle.scmi_core.specs.Situation.{Situation, has_room}
 use Rattle.scmi_core.specs.declared.pending_set.PendingSet.{PendingSet}
+use Rattle.scmi_core.proofs.CommandLaws.{command_laws}
 
 pub then_some : {A B : Type 0} (b : Bool) (o : Option A) (f : A → Option B) (y : B) → option_and_then f (if b then o else None) ≡ Some y → (b ≡ true) × (option_and_then f o ≡ Some y)
 then_some true o f y e = (refl, e)
 then_some false o f y e = absurd (cc)
 
-mapped : {A B : Type 0} (f : A → B) (o : Option A) (y : B) → option_map f o ≡ Some y → (x : A) × (o ≡ Some x) × (f x ≡ y)
+pub mapped : {A B : Type 0} (f : A → B) (o : Option A) (y : B) → option_map f o ≡ Some y → (x : A) × (o ≡ Some x) × (f x ≡ y)
 mapped f None y e = absurd (cc)
 mapped f (Some x) y e = (x, refl, ap (λ o. option_map_or (λ z. z) o y) e)
 
@@ -46,25 +41,13 @@ module _ (board : Board) (a : ℕ) (header : HeaderFields) (s : Situation) (p : 
   pub accepted : (r : Result codec.Command Status) → leaves (if begins_with_success (reply_words board a s r) then success_with a header r else None) → IsAccepted board a s p
   unfolding reply_words
   accepted (Err e) is = absurd (let gone = (then_some (begins_with_success (reply_words board a s (Err e))) None (acceptance board) p is).1 in cc)
-  accepted (Ok (Base c)) is =
-      absurd (let gone = (then_some (begins_with_success (reply_words board a s (Ok (Base c)))) (success_with a header (Ok (Base c))) (acceptance board) p is).1 in cc)
-  accepted (Ok (Power c)) is =
-      let v = power_view board a s in
-      let two = then_some (begins_with_success (reply_words board a s (Ok (Power c)))) (success_with a header (Ok (Power c))) (acceptance board) p is in
-      let set = mapped _ (set_later c) p two.1 in
-      let later = ap (option_map state_effect) set.1 in
+  accepted (Ok c) is =
+      let two = then_some (begins_with_success (reply_words board a s (Ok c))) (success_with a header (Ok c)) (acceptance board) p is in
+      let set = mapped (set_of a header) (later_of board c) p two.1 in
+      let effect = setting_effect set.0.setting in
+      let later : later_effect_of board c ≡ Some effect = ap (option_map (λ l. setting_effect l.setting)) set.1 in
       record {
         own = sym (ap (λ q. q.agent) set.2);
-        room = power_laws.free board v c (state_effect set.0) two.0 later;
-        sent = power_laws.sent board v c (state_effect set.0) two.0 later;
-      }
-  accepted (Ok (Clock c)) is =
-      let v = clock_view board a s in
-      let two = then_some (begins_with_success (reply_words board a s (Ok (Clock c)))) (success_with a header (Ok (Clock c))) (acceptance board) p is in
-      let set = mapped _ (rate_later board c) p two.1 in
-      let later = ap (option_map later_effect) set.1 in
-      record {
-        own = sym (ap (λ q. q.agent) set.2);
-        room = clock_laws.free board v c (later_effect set.0) two.0 later;
-        sent = clock_laws.sent board v c (later_effect set.0) two.0 later;
+        room = (command_laws board a).free board s c effect two.0 later;
+        sent = (command_laws board a).sent board s c effect two.0 later;
       }

@@ -1,5 +1,5 @@
 -- Each change of a legal history came of a command of its causer, who might make it there, or the hardware reported it.
-use Rattle.std.proofs.Common.{◌≡◌, ◌≢◌, ◌⊎◌, inl, inr, ℕ, ◌==◌, ◌&&◌, Bool, true, false, not, List, [], ◌∷◌, ◌++◌, length, map, slice_get, Option, Some, None, Result, Ok, Err, option_map, unwrap_or, refl, sym, ap, ◌∙◌, subst, if◌then◌else◌}
+use Rattle.std.proofs.Common.{◌≡◌, ◌≢◌, ◌⊎◌, inl, inr, ℕ, ◌==◌, ◌&&◌, Bool, true, false, List, [], ◌∷◌, ◌++◌, length, map, slice_get, Option, Some, None, Result, Ok, Err, option_map, unwrap_or, refl, sym, ap, ◌∙◌, subst, if◌then◌else◌}
 use Rattle.std.specs.List.{All}
 use Rattle.std.specs.Option.{option_and_then, option_or, option_to_list}
 use Rattle.std.proofs.lemmas.Bool.Decides.{eqb_tells}
@@ -11,40 +11,30 @@ use Rattle.scmi_codec.specs.declared.status.Status.{Status}
 use Rattle.scmi_codec.specs.declared.frame.Frame.TheVariants.{Good, Malformed}
 use Rattle.scmi_codec.specs.declared.message.Message.{Message}
 use Rattle.scmi_codec.specs.declared.command.Command as codec
-use Rattle.scmi_codec.specs.declared.command.Command.TheVariants.{Base, Power, Clock}
-use Rattle.scmi_codec.specs.declared.power_command.PowerCommand.{PowerCommand}
-use Rattle.scmi_codec.specs.declared.clock_command.ClockCommand.{ClockCommand}
 use Rattle.scmi_plan.specs.Agent.{IsAgent}
 use Rattle.scmi_plan.specs.Board.{Board, is_free, is_kept}
-use Rattle.scmi_plan.specs.declared.resource.Resource.TheVariants as resource
 use Rattle.scmi_base.specs.Permission.{may}
-use Rattle.scmi_power.specs.PowerReply.{power_reply}
-use Rattle.scmi_clock.specs.ClockReply.{clock_reply}
 use Rattle.scmi_plan.specs.declared.effect.Effect.{Effect}
 use Rattle.scmi_plan.specs.declared.effect.Effect.TheVariants as effect
 use Rattle.scmi_base.specs.Protocol.{resource_changed}
-use Rattle.scmi_power.specs.PowerProtocol.{state_effect}
-use Rattle.scmi_power.specs.PowerTable.{set_later, set_now}
-use Rattle.scmi_power.proofs.PowerLaws.{power_laws}
-use Rattle.scmi_clock.specs.ClockProtocol.{clock_effect, later_effect, may_in, switches_off}
-use Rattle.scmi_clock.specs.ClockTable.{enabled_now, rate_later, rate_now}
-use Rattle.scmi_clock.proofs.ClockLaws.{clock_laws}
 use Rattle.scmi_core.specs.declared.event.Event.{Event}
 use Rattle.scmi_core.specs.declared.event.Event.TheVariants.{Command, Advance, Sent, CommandFailed, AdvanceFailed, Restarted, Promoted, Settled, Reported}
 use Rattle.scmi_core.specs.declared.pending_set.PendingSet.{PendingSet}
 use Rattle.scmi_core.specs.declared.pending_set.Setting.{Setting}
 use Rattle.scmi_core.specs.declared.pending_set.Setting.TheVariants as setting
+use Rattle.scmi_core.specs.Commands.{Later, later_of, now_of, setting_effect}
 use Rattle.scmi_core.specs.Deed.{Success, fold_with_prefix, success_at, success_of, success_with}
 use Rattle.scmi_core.specs.History.{deed_after, deeds}
-use Rattle.scmi_core.specs.Laws.{HasCause, HasIntegrity, HasOrigin, IsKeptOn, IsKeptOnByAgents, IsReported, IsSettled, KeepsOn, change_asked, may_after, resource_of}
+use Rattle.scmi_core.specs.Laws.{HasCause, HasIntegrity, HasOrigin, IsKeptOn, IsKeptOnByAgents, IsReported, IsSettled, KeepsOn, change_asked, may_after}
 use Rattle.scmi_core.specs.Legal.{CanFollow, IsLegal}
 use Rattle.scmi_core.specs.Outbox.{situation_after}
-use Rattle.scmi_core.specs.Pending.{acceptance, pending_sets, promoted, rate_set, setting_with, settled, state_set, unwanted}
+use Rattle.scmi_core.specs.Pending.{acceptance, pending_sets, promoted, set_of, setting_with, settled, unwanted}
 use Rattle.scmi_core.specs.ReadCommand.{command_on}
 use Rattle.scmi_core.specs.Reply.{fits_channel, reply_words}
-use Rattle.scmi_core.specs.Situation.{Situation, clock_view, power_view}
-use Rattle.scmi_core.specs.Value.{Change, Enabled, Rate, State, bit_value, change_now, change_reported, changes, completion, set_to_change}
-use Rattle.scmi_core.proofs.Accepting.{All-option, then_some}
+use Rattle.scmi_core.specs.Situation.{Situation}
+use Rattle.scmi_core.specs.Value.{Change, Rate, change_now, change_reported, changes, completion, given, is_off, resource_of, set_to_change, thing_of, value_of}
+use Rattle.scmi_core.proofs.Accepting.{All-option, mapped, then_some}
+use Rattle.scmi_core.proofs.CommandLaws.{command_laws}
 use Rattle.scmi_core.proofs.Deeds.{changes-push}
 use Rattle.scmi_core.proofs.Following.{change-is, change_in, pending-next, pending_next}
 use Rattle.scmi_core.proofs.Promotions.{promoted-all}
@@ -52,19 +42,15 @@ use Rattle.scmi_core.proofs.Legal.{Grown, IsLegal-front, IsLegal-last, advances_
 
 -- A SUCCESS THAT ASKS FOR A CHANGE
 
-off_bit : (b : Bool) → (bit_value b == 0) ≡ not b
-off_bit true = refl
-off_bit false = refl
+-- what an effect changes is of the domain or clock that it changes
+resource-is : (e : Effect) → resource_of (thing_of e) ≡ resource_changed e
+resource-is (effect.State d state) = refl
+resource-is (effect.Rate c rate) = refl
+resource-is (effect.Enabled c enabled) = refl
 
--- a domain and a state, or a clock and a rate, that agent a gave it
-abbrev state_given : ℕ → ℕ × ℕ → Change
-state_given a set = record { thing = State set.0; value = set.1; causer = a }
-
+-- a clock and a rate that agent a gave it
 abbrev rate_given : ℕ → ℕ × ℕ → Change
 rate_given a set = record { thing = Rate set.0; value = set.1; causer = a }
-
-abbrev enabled_given : ℕ → ℕ × Bool → Change
-enabled_given a set = record { thing = Enabled set.0; value = bit_value set.1; causer = a }
 
 -- a change is agent a's, who may make it there
 pub record IsOwn (board : Board) (a : ℕ) (s : Situation) (change : Change) : Type 0 where
@@ -76,59 +62,28 @@ module _ (board : Board) (a : ℕ) (header : HeaderFields) (s : Situation) (chan
   abbrev asks : codec.Command → Option Change
   asks command = change_asked board (record { caller = a; header = header; command = command })
 
-  own : (it : Change) → it.causer ≡ a → may board s.allowed (resource_of it.thing) ≡ true → IsKeptOn board it → Some it ≡ Some change → IsOwn board a s change
-  own it causer allowed kept is =
-      let same : it ≡ change = ap (λ o. unwrap_or o change) is in
-      record { causer = subst (λ c. c.causer ≡ a) same causer; allowed = subst (λ c. may board s.allowed (resource_of c.thing) ≡ true) same allowed; kept = subst (IsKeptOn board) same kept }
+  -- the effect that a success asks for, at once or for later
+  asked-of : (now : Option Effect) (later : Option Later) → option_or (option_map (given a) now) (option_map completion (option_map (set_of a header) later)) ≡ Some change
+      → (e : Effect) × (option_or now (option_map (λ l. setting_effect l.setting) later) ≡ Some e) × (given a e ≡ change)
+  asked-of (Some e) later is = (e, refl, ap (λ o. unwrap_or o change) is)
+  asked-of None (Some l) is = (setting_effect l.setting, refl, ap (λ o. unwrap_or o change) is)
+  asked-of None None is = absurd (cc)
 
-  -- the change of an effect, as its causer made it
-  record IsGiven (e : Effect) : Type 0 where
-    pub it : Change
-    pub causer : it.causer ≡ a
-    pub of : resource_of it.thing ≡ resource_changed e
-    pub off : (is_kept board (resource_changed e) && switches_off e) ≡ false → IsKeptOn board it
-    pub is : Some it ≡ Some change
-
-  may_in-clock : (e : Effect) → may_in (clock_view board a s) (resource_changed e) ≡ true → may board s.allowed (resource_changed e) ≡ true
-  may_in-clock (effect.State d state) is = absurd (cc)
-  may_in-clock (effect.Rate c rate) is = is
-  may_in-clock (effect.Enabled c enabled) is = is
-
-  -- the domain and state, or the clock and its rate or enabled bit, that a success asks for
-  power-asked : (now later : Option (ℕ × ℕ)) → option_or (option_map (state_given a) now) (option_map completion (option_map (state_set a header) later)) ≡ Some change
-      → (set : ℕ × ℕ) × (option_or (option_map state_effect now) (option_map state_effect later) ≡ Some (state_effect set)) × (Some (state_given a set) ≡ Some change)
-  power-asked (Some set) later is = (set, refl, is)
-  power-asked None (Some set) is = (set, refl, is)
-  power-asked None None is = absurd (cc)
-
-  power-own : (c : PowerCommand) → begins_with_success (power_reply board (power_view board a s) c) ≡ true → asks (Power c) ≡ Some change → IsOwn board a s change
-  power-own c ok is =
-      let v = power_view board a s in
-      let x = power-asked (set_now c) (set_later c) is in
-      own (state_given a x.0) refl (power_laws.allowed board v c (state_effect x.0) ok x.1) (power_laws.kept board v c (state_effect x.0) ok x.1) x.2
-
-  clock-asked : (rate : Option (ℕ × ℕ)) (enabled : Option (ℕ × Bool)) (later : Option (ℕ × ℕ × Bool))
-      → option_or (option_or (option_map (rate_given a) rate) (option_map (enabled_given a) enabled)) (option_map completion (option_map (rate_set a header) later)) ≡ Some change
-      → (e : Effect) × (option_or (clock_effect rate enabled) (option_map later_effect later) ≡ Some e) × IsGiven e
-  clock-asked (Some set) enabled later is = (effect.Rate set.0 set.1, refl, record { it = rate_given a set; causer = refl; of = refl; off = λ h. h; is = is })
-  clock-asked None (Some set) later is = (effect.Enabled set.0 set.1, refl, record { it = enabled_given a set; causer = refl; of = refl; off = λ h. ap (λ b. is_kept board (resource.Clock set.0) && b) (off_bit set.1) ∙ h; is = is })
-  clock-asked None None (Some set) is = (effect.Rate set.0 set.1, refl, record { it = rate_given a (set.0, set.1); causer = refl; of = refl; off = λ h. h; is = is })
-  clock-asked None None None is = absurd (cc)
-
-  clock-own : (c : ClockCommand) → begins_with_success (clock_reply board (clock_view board a s) c) ≡ true → asks (Clock c) ≡ Some change → IsOwn board a s change
-  clock-own c ok is =
-      let v = clock_view board a s in
-      let x = clock-asked (rate_now board c) (enabled_now c) (rate_later board c) is in
-      let g = x.2 in
-      own g.it g.causer (subst (λ r. may board s.allowed r ≡ true) (sym g.of) (may_in-clock x.0 (clock_laws.allowed board v c x.0 ok x.1))) (g.off (clock_laws.kept board v c x.0 ok x.1)) g.is
+  own : (c : codec.Command) → begins_with_success (reply_words board a s (Ok c)) ≡ true → asks c ≡ Some change → IsOwn board a s change
+  unfolding reply_words
+  own c ok is =
+      let x = asked-of (now_of board c) (later_of board c) is in
+      let laws = command_laws board a in
+      subst (IsOwn board a s) x.2 (record {
+        causer = refl;
+        allowed = subst (λ r. may board s.allowed r ≡ true) (sym (resource-is x.0)) (laws.allowed board s c x.0 ok x.1);
+        kept = subst (λ r. (is_kept board r && is_off (thing_of x.0) (value_of x.0)) ≡ false) (sym (resource-is x.0)) (laws.kept board s c x.0 ok x.1);
+      })
 
   pub asked-own : (r : Result codec.Command Status)
       → option_and_then (change_asked board) (if begins_with_success (reply_words board a s r) then success_with a header r else None) ≡ Some change → IsOwn board a s change
-  unfolding reply_words
   asked-own (Err e) is = let two = then_some (begins_with_success (reply_words board a s (Err e))) (success_with a header (Err e)) (change_asked board) change is in let no = two.1 in absurd (cc)
-  asked-own (Ok (Base c)) is = let two = then_some (begins_with_success (reply_words board a s (Ok (Base c)))) (success_with a header (Ok (Base c))) (change_asked board) change is in let no = two.1 in absurd (cc)
-  asked-own (Ok (Power c)) is = let two = then_some (begins_with_success (reply_words board a s (Ok (Power c)))) (success_with a header (Ok (Power c))) (change_asked board) change is in power-own c two.0 two.1
-  asked-own (Ok (Clock c)) is = let two = then_some (begins_with_success (reply_words board a s (Ok (Clock c)))) (success_with a header (Ok (Clock c))) (change_asked board) change is in clock-own c two.0 two.1
+  asked-own (Ok c) is = let two = then_some (begins_with_success (reply_words board a s (Ok c))) (success_with a header (Ok c)) (change_asked board) change is in own c two.0 two.1
 
 -- a change that is made at once was asked for
 pub now-asked : (board : Board) (o : Option Success) (change : Change) → option_and_then (change_now board) o ≡ Some change → option_and_then (change_asked board) o ≡ Some change
@@ -137,28 +92,11 @@ now-asked board (Some s) change is = ap (λ now. option_or now (option_map compl
 
 -- a success that is accepted for later changes nothing at once
 module _ (board : Board) (a : ℕ) (header : HeaderFields) (p : PendingSet) where
-  power-later : (c : PowerCommand) → acceptance board (record { caller = a; header = header; command = Power c }) ≡ Some p → change_now board (record { caller = a; header = header; command = Power c }) ≡ None
-  power-later c is = by (set_now c) (set_later c) is (power_laws.once board c) where
-    by : (now later : Option (ℕ × ℕ)) → option_map (state_set a header) later ≡ Some p → ((e : Effect) → option_map state_effect later ≡ Some e → option_map state_effect now ≡ None)
-        → option_map (state_given a) now ≡ None
-    by None later some once = refl
-    by (Some set) None some once = absurd (cc)
-    by (Some set) (Some set') some once = absurd (let no = once (state_effect set') refl in cc)
-
-  clock-later : (c : ClockCommand) → acceptance board (record { caller = a; header = header; command = Clock c }) ≡ Some p → change_now board (record { caller = a; header = header; command = Clock c }) ≡ None
-  clock-later c is = by (rate_now board c) (enabled_now c) (rate_later board c) is (clock_laws.once board c) where
-    by : (rate : Option (ℕ × ℕ)) (enabled : Option (ℕ × Bool)) (later : Option (ℕ × ℕ × Bool)) → option_map (rate_set a header) later ≡ Some p
-        → ((e : Effect) → option_map later_effect later ≡ Some e → clock_effect rate enabled ≡ None)
-        → option_or (option_map (rate_given a) rate) (option_map (enabled_given a) enabled) ≡ None
-    by None None later some once = refl
-    by rate enabled None some once = absurd (cc)
-    by (Some set) enabled (Some set') some once = absurd (let no = once (later_effect set') refl in cc)
-    by None (Some set) (Some set') some once = absurd (let no = once (later_effect set') refl in cc)
-
   pub later : (c : codec.Command) → acceptance board (record { caller = a; header = header; command = c }) ≡ Some p → change_now board (record { caller = a; header = header; command = c }) ≡ None
-  later (Base c) is = refl
-  later (Power c) is = power-later c is
-  later (Clock c) is = clock-later c is
+  later c is =
+      let set = mapped (set_of a header) (later_of board c) p is in
+      let effect = setting_effect set.0.setting in
+      ap (option_map (given a)) ((command_laws board a).once board c effect (ap (option_map (λ l. setting_effect l.setting)) set.1))
 
 pub later-asked : (board : Board) (o : Option Success) (p : PendingSet) → option_and_then (acceptance board) o ≡ Some p → option_and_then (change_asked board) o ≡ Some (completion p)
 later-asked board None p is = absurd (cc)

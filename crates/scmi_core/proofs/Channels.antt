@@ -13,13 +13,8 @@ use Rattle.scmi_codec.specs.declared.frame.Frame.{Frame}
 use Rattle.scmi_codec.specs.declared.frame.Frame.TheVariants.{Good, Malformed}
 use Rattle.scmi_codec.specs.declared.frame.Answer.TheVariants.{Reply, ChannelError}
 use Rattle.scmi_codec.specs.declared.command.Command as codec
-use Rattle.scmi_codec.specs.declared.command.Command.TheVariants.{Base, Power, Clock}
 use Rattle.scmi_plan.specs.Board.{Board, channel_of}
 use Rattle.scmi_plan.specs.Plan.{IsValid}
-use Rattle.scmi_base.specs.Permission.{reset_by}
-use Rattle.scmi_power.specs.PowerReply.{power_reply}
-use Rattle.scmi_power.specs.PowerTable.{notification}
-use Rattle.scmi_power.proofs.PowerLaws.{power_laws}
 use Rattle.scmi_core.specs.declared.event.Event.{Event}
 use Rattle.scmi_codec.specs.declared.fault.Fault.{Fault}
 use Rattle.scmi_core.specs.declared.event.Event.TheVariants.{Command, Advance, Sent, CommandFailed, AdvanceFailed, Restarted, Promoted, Settled, Reported}
@@ -28,6 +23,7 @@ use Rattle.scmi_core.specs.declared.pending_set.Setting.{Setting}
 use Rattle.scmi_core.specs.declared.pending_set.Setting.TheVariants as setting
 use Rattle.scmi_core.specs.Agents.{answer_for, answers_to}
 use Rattle.scmi_core.specs.Channels.{IsAnswerWithin, IsOneWay, IsWithin, KeepsChannels}
+use Rattle.scmi_core.specs.Commands.{request_of, reset_of}
 use Rattle.scmi_core.specs.Deed.{Deed, fold_with_prefix, success_of, success_with}
 use Rattle.scmi_core.specs.History.{answer_to, deed_after, deeds, made_for, outbox}
 use Rattle.scmi_core.specs.Legal.{IsLegal}
@@ -35,10 +31,11 @@ use Rattle.scmi_core.specs.Outbox.{failed_response_for, failed_response_to, fail
 use Rattle.scmi_core.specs.Pending.{acceptance, promoted, sets_by, settled, unwanted}
 use Rattle.scmi_core.specs.ReadCommand.{command_on}
 use Rattle.scmi_core.specs.Reply.{fits_channel, reply_words}
-use Rattle.scmi_core.specs.Situation.{Situation, power_view}
+use Rattle.scmi_core.specs.Situation.{Situation}
 use Rattle.scmi_core.specs.Subscriptions.{subscription, subscription_after_reset, subscription_at}
 use Rattle.scmi_core.specs.Value.{Change, Enabled, Rate, State, Thing, fault_in}
 use Rattle.scmi_core.proofs.Accepting.{All-option, accepted}
+use Rattle.scmi_core.proofs.CommandLaws.{command_laws}
 use Rattle.scmi_core.proofs.Following.{change_in, completed_in, failed_in, made_next, messages-next, next, pending_next, situation-next}
 use Rattle.scmi_core.proofs.Isolation.{answers-push}
 use Rattle.scmi_core.proofs.Legal.{Grown, IsLegal-front, advances_le-accepted, deeds-push, empty, grow, grown, sent_le-made}
@@ -217,10 +214,10 @@ module _ (board : Board) (b : ℕ) (s : Situation) (quiet : IsUnsent b s) where
 
 module _ (board : Board) (b : ℕ) (one_way : IsOneWay board b) where
   -- a success leaves it without a request
-  reset-off : (d : ℕ) (old : Bool) (reset : Option ℕ) → old ≡ false → unwrap_or (subscription_after_reset b reset) old ≡ false
-  reset-off d old None off = off
-  reset-off d old (Some agent) off = by (agent == b) where
-    by : (own : Bool) → unwrap_or (if own then Some false else None) old ≡ false
+  reset-off : (old : Bool) (reset : Option ℕ) (request : Option Bool) → unwrap_or request old ≡ false → unwrap_or (option_or (subscription_after_reset b reset) request) old ≡ false
+  reset-off old None request off = off
+  reset-off old (Some agent) request off = by (agent == b) where
+    by : (own : Bool) → unwrap_or (option_or (if own then Some false else None) request) old ≡ false
     by true = refl
     by false = off
 
@@ -231,24 +228,16 @@ module _ (board : Board) (b : ℕ) (one_way : IsOneWay board b) where
     by : (ok : Bool) → unwrap_or (option_and_then (subscription b d) (if ok then success_with a header (Err e) else None)) old ≡ false
     by true = was
     by false = was
-  off a header s (Ok (Base c)) d old was = by (begins_with_success (reply_words board a s (Ok (Base c)))) where
-    by : (ok : Bool) → unwrap_or (option_and_then (subscription b d) (if ok then success_with a header (Ok (Base c)) else None)) old ≡ false
-    by true = reset-off d old (reset_by c) was
-    by false = was
-  off a header s (Ok (Clock c)) d old was = by (begins_with_success (reply_words board a s (Ok (Clock c)))) where
-    by : (ok : Bool) → unwrap_or (option_and_then (subscription b d) (if ok then success_with a header (Ok (Clock c)) else None)) old ≡ false
-    by true = was
-    by false = was
-  off a header s (Ok (Power c)) d old was = by (begins_with_success (power_reply board (power_view board a s) c)) refl where
-    asked : begins_with_success (power_reply board (power_view board a s) c) ≡ true → (o : Option Bool) → notification b d a c ≡ o → unwrap_or o old ≡ false
+  off a header s (Ok c) d old was = by (begins_with_success (reply_words board a s (Ok c))) refl where
+    asked : begins_with_success (reply_words board a s (Ok c)) ≡ true → (o : Option Bool) → request_of b d a c ≡ o → unwrap_or o old ≡ false
     asked ok None is = was
     asked ok (Some told) is =
-        let sent = power_laws.told board (power_view board a s) c b d a told ok is in
+        let sent = (command_laws board a).told board s c b d a told ok is in
         absurd (both_ways (channel_of board b).one_way one_way (subst (λ x. (channel_of board x).one_way ≡ false) (eqb-true a b sent.0) sent.1))
 
-    by : (ok : Bool) → begins_with_success (power_reply board (power_view board a s) c) ≡ ok
-        → unwrap_or (option_and_then (subscription b d) (if ok then success_with a header (Ok (Power c)) else None)) old ≡ false
-    by true ok = asked ok (notification b d a c) refl
+    by : (ok : Bool) → begins_with_success (reply_words board a s (Ok c)) ≡ ok
+        → unwrap_or (option_and_then (subscription b d) (if ok then success_with a header (Ok c) else None)) old ≡ false
+    by true ok = reset-off old (reset_of c) (request_of b d a c) (asked ok (request_of b d a c) refl)
     by false ok = was
 
   -- nor does it leave it a pending set

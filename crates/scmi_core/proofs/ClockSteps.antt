@@ -21,10 +21,11 @@ use Rattle.scmi_core.specs.declared.pending_set.PendingSet.{PendingSet}
 use Rattle.scmi_core.specs.declared.tables.Tables.{Tables}
 use Rattle.std.specs.Option.{option_or, option_and_then, option_to_list}
 use Rattle.scmi_core.specs.Deed.{Success, success_with, success_of}
-use Rattle.scmi_core.specs.Permissions.{permission_in}
+use Rattle.scmi_core.specs.Commands.{permission_in, rate_later_as}
+use Rattle.scmi_clock.specs.ClockProtocol.{clock_effect}
 use Rattle.scmi_core.specs.Subscriptions.{subscription, subscription_after_reset}
-use Rattle.scmi_core.specs.Pending.{acceptance, rate_set}
-use Rattle.scmi_core.specs.Value.{Change, change_now, Thing, State, Rate, Enabled, bit_value, value_in, change_of}
+use Rattle.scmi_core.specs.Pending.{acceptance, rate_set, set_of}
+use Rattle.scmi_core.specs.Value.{Change, change_now, given, Thing, State, Rate, Enabled, bit_value, value_in, change_of}
 use Rattle.scmi_core.specs.Tables.{outbox_at, value_at, IsThing, IsOfBoard, situation_in}
 use Rattle.scmi_core.specs.Outbox.{made_in}
 use Rattle.scmi_core.specs.Step.{HasStepped, SameButPending}
@@ -44,18 +45,27 @@ enabled_change a set = record { thing = Enabled set.0; value = bit_value set.1; 
 abbrev pub either : ℕ → Option (ℕ × ℕ) → Option (ℕ × Bool) → Option Change
 either a rate enabled = option_or (option_map (rate_change a) rate) (option_map (enabled_change a) enabled)
 
+clock-given : (a : ℕ) (rate : Option (ℕ × ℕ)) (enabled : Option (ℕ × Bool)) → option_map (given a) (clock_effect rate enabled) ≡ either a rate enabled
+clock-given a None None = refl
+clock-given a None (Some set) = refl
+clock-given a (Some set) enabled = refl
+
+clock-accepted : (a : ℕ) (header : HeaderFields) (later : Option (ℕ × ℕ × Bool)) → option_map (set_of a header) (option_map rate_later_as later) ≡ option_map (rate_set a header) later
+clock-accepted a header None = refl
+clock-accepted a header (Some set) = refl
+
 pub change-clock : (board : Board) (a : ℕ) (header : HeaderFields) (c : ClockCommand) (reply : List ℕ)
     → change_of board (success_of a header (Ok (Clock c)) reply) None ≡ either a (if_success reply (rate_now board c)) (if_success reply (enabled_now c))
 change-clock board a header c reply = by (begins_with_success reply) where
   by : (b : Bool) → option_or None (option_and_then (change_now board) (if b then success_with a header (Ok (Clock c)) else None)) ≡ either a (if b then rate_now board c else None) (if b then enabled_now c else None)
-  by true = refl
+  by true = clock-given a (rate_now board c) (enabled_now c)
   by false = refl
 
 pending_sets-clock : (board : Board) (a : ℕ) (header : HeaderFields) (c : ClockCommand) (reply : List ℕ)
     → option_and_then (acceptance board) (success_of a header (Ok (Clock c)) reply) ≡ option_map (rate_set a header) (if_success reply (rate_later board c))
 pending_sets-clock board a header c reply = by (begins_with_success reply) where
   by : (b : Bool) → option_and_then (acceptance board) (if b then success_with a header (Ok (Clock c)) else None) ≡ option_map (rate_set a header) (if b then rate_later board c else None)
-  by true = refl
+  by true = clock-accepted a header (rate_later board c)
   by false = refl
 
 says_nothing : {Y : Type 0} (a : ℕ) (header : HeaderFields) (r : Result codec.Command Status) (reply : List ℕ) (f : Success → Option Y) (old : Y)
@@ -159,6 +169,11 @@ pending_sets-base board a header c reply = by (begins_with_success reply) where
   by true = refl
   by false = refl
 
+-- a reset asks for nothing else
+reset_alone : (o : Option Bool) → o ≡ option_or o None
+reset_alone None = refl
+reset_alone (Some on) = refl
+
 pub base-stepped : (board : Board) (t new : Tables) (base' : Permissions) (a : ℕ) (header : HeaderFields) (c : BaseCommand) (reply : List ℕ)
     → ((x d : ℕ) (scope : Scope) → 1 ≤ x → d < 32 → is_allowed base' x d scope ≡ is_allowed_after board reply x d scope c t.base)
     → ((x d : ℕ) → 1 ≤ x → x ≤ 8 → d < 32 → is_subscribed new.power x d ≡ unwrap_or (subscription_after_reset x (reset_after reply c)) (is_subscribed t.power x d))
@@ -185,7 +200,7 @@ base-stepped board t new base' a header c reply permits ends states bases clocks
       permitted false x d scope old = refl
 
       unsubscribed : (b : Bool) (x d : ℕ) (old : Bool) → unwrap_or (subscription_after_reset x (if b then reset_by c else None)) old ≡ unwrap_or (option_and_then (subscription x d) (if b then success_with a header (Ok (Base c)) else None)) old
-      unsubscribed true x d old = refl
+      unsubscribed true x d old = ap (λ o. unwrap_or o old) (reset_alone (subscription_after_reset x (reset_by c)))
       unsubscribed false x d old = refl
 
       values : (x : Thing) → value_at new x ≡ value_at t x

@@ -15,7 +15,8 @@ use Rattle.std.specs.Option.{option_to_list, option_and_then, option_map_or}
 use Rattle.scmi_core.specs.Deed.{Deed, Success, fold_with_prefix, latest, successes, success_at}
 use Rattle.scmi_core.specs.Value.{Thing, changes, change_by, commanded_by, commanded_changes, completed_set, failed_set, fault_in, value, value_at_start, value_in}
 use Rattle.scmi_plan.specs.declared.scope.Scope.{Scope}
-use Rattle.scmi_core.specs.Permissions.{has_permission, permission_in}
+use Rattle.scmi_core.specs.Commands.{permission_in}
+use Rattle.scmi_core.specs.Permissions.{has_permission}
 use Rattle.scmi_core.specs.Subscriptions.{subscription_at, is_subscriber}
 use Rattle.scmi_core.specs.Pending.{PendingChange, First, Settled as Gives, Unwanted, acceptance, accepted_sets, advances, is_advance, pending_change, pending_left, pending_sets, sets_left, settled, unwanted}
 use Rattle.scmi_core.specs.Outbox.{failed_response_for, is_restart_of, messages_left, messages_made, made_by, made_in, outbox_after, sent_count, is_sent_by, situation_with}

@@ -12,7 +12,7 @@ use Rattle.scmi_core.specs.Deed.{Deed}
 use Rattle.scmi_core.specs.History.{deed_after}
 use Rattle.scmi_core.specs.Outbox.{failed_response_for, is_restart_of, is_sent_by, made_by, made_in, messages_left, messages_made, outbox_after, sent_count, situation_after}
 use Rattle.scmi_core.specs.Pending.{acceptance, accepted_sets, advances, is_advance, pending_change, pending_left, pending_sets}
-use Rattle.scmi_core.specs.Permissions.{permission_in}
+use Rattle.scmi_core.specs.Commands.{permission_in}
 use Rattle.scmi_core.specs.Reply.{words_given}
 use Rattle.scmi_core.specs.Situation.{Situation}
 use Rattle.scmi_core.specs.Subscriptions.{subscription_at}

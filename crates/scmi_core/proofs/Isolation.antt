@@ -22,7 +22,7 @@ use Rattle.scmi_core.specs.Laws.{AreAlikeBut, HasIsolation, is_refused, without_
 use Rattle.scmi_core.specs.Legal.{CanFollow, IsLegal}
 use Rattle.scmi_core.specs.Outbox.{failed_response_for, is_restart_of, is_sent_by, made_in, messages_left, messages_made, sent_count, situation_after}
 use Rattle.scmi_core.specs.Pending.{acceptance, has_set_of, is_advance, pending_change, pending_left, pending_sets}
-use Rattle.scmi_core.specs.Permissions.{permission_in}
+use Rattle.scmi_core.specs.Commands.{permission_in}
 use Rattle.scmi_core.specs.ReadCommand.{command_on}
 use Rattle.scmi_core.specs.Reply.{answer_in}
 use Rattle.scmi_core.specs.Situation.{Situation}

@@ -1,5 +1,5 @@
 -- Tables that took a report over agree with the history that has it, and what a report leaves of that.
-use Rattle.std.proofs.Common.{◌≡◌, ◌-◌, ◌==◌, true, false, List, [], ◌∷◌, ◌++◌, get_or, Some, None, unwrap_or, refl, sym, ap, ◌∙◌, subst, if◌then◌else◌}
+use Rattle.std.proofs.Common.{◌≡◌, ◌-◌, ◌==◌, true, List, [], ◌∷◌, ◌++◌, get_or, Some, None, unwrap_or, refl, sym, ap, ◌∙◌, subst, if◌then◌else◌}
 use Rattle.std.specs.Int.{bit_at}
 use Rattle.std.specs.List.{All}
 use Rattle.std.proofs.lemmas.Bool.{eq-eqb}
@@ -14,17 +14,17 @@ use Rattle.scmi_core.specs.declared.event.Event.TheVariants.{Reported}
 use Rattle.scmi_core.specs.declared.tables.Tables.{Tables}
 use Rattle.scmi_core.specs.Agreement.{Agrees}
 use Rattle.scmi_core.specs.Deed.{Deed}
-use Rattle.scmi_core.specs.Effect.{effect_of}
 use Rattle.scmi_core.specs.History.{deeds, made_for, outbox}
 use Rattle.scmi_core.specs.Legal.{IsLegal}
 use Rattle.scmi_core.specs.Outbox.{made_in, messages_made, outbox_after, situation_after}
 use Rattle.scmi_core.specs.Pending.{pending_sets}
 use Rattle.scmi_core.specs.Permissions.{has_permission}
 use Rattle.scmi_core.specs.Reports.{IsTakenOver}
-use Rattle.scmi_core.specs.Step.{HasReported}
+use Rattle.scmi_core.specs.Step.{HasChanged}
 use Rattle.scmi_core.specs.Subscriptions.{is_subscriber}
-use Rattle.scmi_core.specs.Tables.{IsOfBoard, situation_in}
-use Rattle.scmi_core.specs.Value.{IsReportable, change_reported, same_thing, value, value_in}
+use Rattle.scmi_core.specs.Tables.{IsOfBoard, IsThing, situation_in}
+use Rattle.scmi_core.specs.Value.{IsReportable, change_reported, same_thing, thing_of, value, value_in}
+use Rattle.scmi_core.proofs.Changes.{effect-given}
 use Rattle.scmi_core.proofs.Deeds.{IsLegal-push, has_permission-push, is_subscriber-push, messages_made-push, outbox-push, pending_sets-push, value-push}
 use Rattle.scmi_core.proofs.Legal.{advances_le-accepted, deeds-push, sent_le-made}
 use Rattle.scmi_core.proofs.Situations.{messages_made-same}
@@ -32,7 +32,7 @@ use Rattle.scmi_core.proofs.Ties.{same-situation}
 
 -- tables that took a report over agree with the history that has it
 pub Agrees-reported : (board : Board) (t new : Tables) (h : List Event) (effect : Effect) → Agrees board t h → IsValid board → IsReportable board effect
-    → HasReported board (change_reported effect) t new → Agrees board new (h ++ Reported effect ∷ [])
+    → HasChanged board (change_reported effect) t new → Agrees board new (h ++ Reported effect ∷ [])
 unfolding outbox
 Agrees-reported board t new h effect agrees law reportable it =
     let deed : Deed = record { event = Reported effect; reply = [] } in
@@ -64,11 +64,11 @@ Agrees-reported board t new h effect agrees law reportable it =
           ∙ sym (ap (outbox_after board x) more ∙ outbox-push board x ds deed refl (sent_le-made board h agrees.legal x));
     }
 
-as_effect : (effect : Effect) → effect_of (change_reported effect) ≡ effect
-as_effect (effect.State d state) = refl
-as_effect (effect.Rate k rate) = refl
-as_effect (effect.Enabled k true) = refl
-as_effect (effect.Enabled k false) = refl
+-- what may be reported is a thing of the board
+pub reportable_known : (board : Board) (effect : Effect) → IsReportable board effect → IsThing board (thing_of effect)
+reportable_known board (effect.State d state) is = is.0
+reportable_known board (effect.Rate k rate) is = is
+reportable_known board (effect.Enabled k enabled) is = is
 
 same_as : (effect : Effect) → same_thing (change_reported effect).thing (change_reported effect).thing ≡ true
 same_as (effect.State d state) = eq-eqb d d refl
@@ -86,7 +86,7 @@ taken-over board h effect legal =
     let pend : pending_sets board (ds ++ deed ∷ []) ≡ pending_sets board ds
     = pending_sets-push board ds deed refl (advances_le-accepted board h legal) ∙ append-nil (pending_sets board ds) in
     record {
-      changed = ap Some (as_effect effect);
+      changed = ap Some (effect-given 0 effect);
       value =
           ap (value board change.thing) more ∙ value-push board change.thing ds deed
           ∙ ap (λ same. unwrap_or (if same then Some change.value else None) (value board change.thing ds)) (same_as effect);

@@ -4,15 +4,12 @@ use Rattle.std.specs.List.{All}
 use Rattle.std.proofs.lemmas.List.Elements.{All-head, All-tail}
 use Rattle.scmi_codec.specs.declared.status.Status.{Status}
 use Rattle.scmi_codec.specs.declared.command.Command as codec
-use Rattle.scmi_codec.specs.declared.command.Command.TheVariants.{Base, Power, Clock}
 use Rattle.scmi_plan.specs.Board.{Board, IsChannel, channel_of, whole_channel}
 use Rattle.scmi_plan.specs.Plan.{IsValid}
 use Rattle.scmi_plan.specs.declared.agent_channel.AgentChannel.{AgentChannel}
-use Rattle.scmi_base.proofs.BaseLaws as base_laws
-use Rattle.scmi_power.proofs.PowerLaws.{power_laws}
-use Rattle.scmi_clock.proofs.ClockLaws.{clock_laws}
 use Rattle.scmi_core.specs.Reply.{reply_words}
-use Rattle.scmi_core.specs.Situation.{Situation, clock_view, power_view}
+use Rattle.scmi_core.specs.Situation.{Situation}
+use Rattle.scmi_core.proofs.CommandLaws.{command_laws}
 
 -- the channels of each agent of a valid board are valid
 valid_at : (xs : List AgentChannel) (k : ℕ) → All IsChannel xs → IsChannel (get_or xs k whole_channel)
@@ -27,6 +24,4 @@ valid_channel board a law = valid_at board.channels (a - 1) law.valid_channels
 pub reply-within : (board : Board) (a : ℕ) (s : Situation) (r : Result codec.Command Status) → IsValid board → length (reply_words board a s r) ≤ (channel_of board a).words
 unfolding reply_words
 reply-within board a s (Err e) law = let least = (valid_channel board a law).0 in omega (arith, least)
-reply-within board a s (Ok (Base c)) law = base_laws.within (channel_of board a).words (valid_channel board a law).0 board a c
-reply-within board a s (Ok (Power c)) law = power_laws.within board (power_view board a s) c (valid_channel board a law)
-reply-within board a s (Ok (Clock c)) law = clock_laws.within board (clock_view board a s) c (valid_channel board a law)
+reply-within board a s (Ok c) law = (command_laws board a).within board s c (valid_channel board a law)

@@ -9,7 +9,7 @@ use Rattle.scmi_codec.specs.declared.message.Message.{Message}
 use Rattle.scmi_codec.specs.declared.frame.Frame.{Frame}
 use Rattle.scmi_codec.specs.declared.frame.Frame.TheVariants.{Good, Malformed}
 use Rattle.scmi_codec.specs.declared.command.Command as codec
-use Rattle.scmi_codec.specs.declared.command.Command.TheVariants.{Base, Power, Clock}
+use Rattle.scmi_codec.specs.declared.command.Command.TheVariants.{Power, Clock}
 use Rattle.scmi_plan.specs.Board.{Board, channel_of}
 use Rattle.scmi_plan.specs.declared.resource.Resource.TheVariants as resource
 use Rattle.scmi_plan.specs.declared.scope.Scope.{Scope}
@@ -29,11 +29,12 @@ use Rattle.scmi_core.specs.declared.event.Event.TheVariants.{Promoted, Restarted
 use Rattle.scmi_core.specs.Deed.{Deed}
 use Rattle.scmi_core.specs.Value.{Change, Thing, State, Rate, Enabled, bit_value}
 use Rattle.scmi_core.specs.Pending.{has_room_beside, has_set_of, pending_sets, sets_by}
-use Rattle.scmi_core.specs.Situation.{Situation, has_room, power_view, clock_view}
+use Rattle.scmi_core.specs.Situation.{Situation, clock_view, has_room, power_view, views}
 use Rattle.scmi_core.specs.Outbox.{messages_made, made_in, notice_in, outbox_after, response_for, sent_count, situation_after, state_changed}
 use Rattle.scmi_core.specs.ReadCommand.{command_on}
 use Rattle.scmi_core.specs.Reply.{answer_in, fits_channel, reply_words, words_given}
 use Rattle.scmi_core.specs.Tables.{IsThing, situation_in}
+use Rattle.scmi_core.proofs.CommandLaws.{SameViews, reply_by-same}
 use Rattle.scmi_core.proofs.Deeds.{messages_made-push, outbox-push}
 
 -- two situations say the same of all that is on the board
@@ -93,30 +94,30 @@ module _ (board : Board) (a : ℕ) (s u : Situation) (same : SameSituation board
       ap (λ p. has_room_beside (channel_of board a).share (length s.outbox) a p) same.pending
       ∙ ap (λ b. has_room_beside (channel_of board a).share (length b) a u.pending) same.outbox
 
+  views-same : SameViews board (views board a s) (views board a u)
+  views-same = record {
+    power = record {
+      state = λ d small. same.value (State d) small;
+      may = λ d small. may-same board s.allowed u.allowed (resource.Domain d) same.allowed;
+      busy = λ d small. ap (has_set_of (resource.Domain d)) same.pending;
+      room = room-same;
+      channel = refl;
+    };
+    clock = record {
+      rate = λ k small. same.value (Rate k) small;
+      enabled = λ k small. ap (λ n. n == 1) (same.value (Enabled k) small);
+      may = λ k small. may-same board s.allowed u.allowed (resource.Clock k) same.allowed;
+      busy = λ k small. ap (has_set_of (resource.Clock k)) same.pending;
+      room = room-same;
+      channel = refl;
+    };
+  }
+
   -- one reply to each command
   pub reply-same : (r : Result codec.Command Status) → reply_words board a s r ≡ reply_words board a u r
   unfolding reply_words
   reply-same (Err e) = refl
-  reply-same (Ok (Base c)) = refl
-  reply-same (Ok (Power c)) =
-      power_same.power_reply-same board (power_view board a s) (power_view board a u)
-      (record {
-        state = λ d small. same.value (State d) small;
-        may = λ d small. may-same board s.allowed u.allowed (resource.Domain d) same.allowed;
-        busy = λ d small. ap (has_set_of (resource.Domain d)) same.pending;
-        room = room-same;
-        channel = refl;
-      }) c
-  reply-same (Ok (Clock c)) =
-      clock_same.clock_reply-same board (clock_view board a s) (clock_view board a u)
-      (record {
-        rate = λ k small. same.value (Rate k) small;
-        enabled = λ k small. ap (λ n. n == 1) (same.value (Enabled k) small);
-        may = λ k small. may-same board s.allowed u.allowed (resource.Clock k) same.allowed;
-        busy = λ k small. ap (has_set_of (resource.Clock k)) same.pending;
-        room = room-same;
-        channel = refl;
-      }) c
+  reply-same (Ok c) = reply_by-same board a (views board a s) (views board a u) views-same c
 
   -- also if it may be longer than the channel
   pub given-same : (m : Message) → words_given board a s m ≡ words_given board a u m

@@ -1,9 +1,8 @@
 -- What a command or a completion leaves of the tables.
-use Rattle.std.proofs.Common.{◌≡◌, ℕ, ◌+◌, ◌-◌, ◌<◌, ◌≤◌, ◌==◌, ◌&&◌, nat_lt, Bool, true, false, not, List, [], ◌∷◌, ◌++◌, length, drop, get_or, slice_get, Option, Some, None, IfSome, Ok, unwrap_or, option_map, refl, sym, ap, ◌∙◌, subst, arith, if◌then◌else◌}
+use Rattle.std.proofs.Common.{◌≡◌, ℕ, ◌+◌, ◌<◌, ◌≤◌, ◌==◌, ◌&&◌, nat_lt, Bool, true, false, not, List, [], ◌∷◌, ◌++◌, length, Option, Some, None, IfSome, Ok, unwrap_or, option_map, refl, sym, ap, ◌∙◌, subst, arith, if◌then◌else◌}
 use Rattle.std.specs.List.{All}
-use Rattle.std.specs.Int.{bit_at}
-use Rattle.std.proofs.lemmas.List.{append_assoc, append-nil, length-append}
-use Rattle.std.proofs.lemmas.List.Elements.{All-append, All-nil, All-cons, All-drop}
+use Rattle.std.proofs.lemmas.List.{append-nil, length-append}
+use Rattle.std.proofs.lemmas.List.Elements.{All-append, All-nil, All-cons}
 use Rattle.scmi_codec.specs.Header.{HeaderFields}
 use Rattle.scmi_codec.specs.Payload.{begins_with_success}
 use Rattle.scmi_codec.specs.declared.message.Message.{Message}
@@ -14,22 +13,22 @@ use Rattle.scmi_base.specs.Permission.{is_allowed}
 use Rattle.scmi_plan.specs.declared.scope.Scope.{Scope}
 use Rattle.scmi_power.specs.PowerTable.{PowerTables, state_at, is_subscribed, set_to, set_now, set_later, notification}
 use Rattle.scmi_codec.specs.Payload.{if_success}
-use Rattle.scmi_clock.specs.ClockTable.{ClockTables, rate_at, enabled_at}
+use Rattle.scmi_clock.specs.ClockTable.{rate_at, enabled_at}
 use Rattle.scmi_power.specs.PowerProtocol.{state_effect}
 use Rattle.scmi_power.proofs.PowerLaws.{power_laws}
 use Rattle.scmi_core.specs.declared.pending_set.PendingSet.{PendingSet}
-use Rattle.scmi_core.specs.declared.pending_set.Setting.TheVariants as setting
 use Rattle.scmi_core.specs.declared.tables.Tables.{Tables}
 use Rattle.std.specs.Option.{option_or, option_and_then, option_to_list}
+use Rattle.scmi_core.specs.Commands.{state_later}
 use Rattle.scmi_core.specs.Deed.{success_with, success_of}
-use Rattle.scmi_core.specs.Permissions.{permission_in}
+use Rattle.scmi_core.specs.Commands.{permission_in}
 use Rattle.scmi_core.specs.Subscriptions.{subscription}
-use Rattle.scmi_core.specs.Pending.{acceptance, state_set, sets_by}
-use Rattle.scmi_core.specs.Value.{Change, change_now, Thing, State, Rate, Enabled, bit_value, value_in, change_of}
-use Rattle.scmi_core.specs.Outbox.{made_in, notice_in, state_changed, response_for}
+use Rattle.scmi_core.specs.Pending.{acceptance, set_of, state_set, sets_by}
+use Rattle.scmi_core.specs.Value.{Change, change_now, given, Thing, State, Rate, Enabled, bit_value, value_in, change_of}
+use Rattle.scmi_core.specs.Outbox.{made_in, notice_in, state_changed}
 use Rattle.scmi_core.specs.Tables.{outbox_at, load_at, situation_in, value_at, IsThing, IsOfBoard}
 use Rattle.scmi_core.specs.Step.{HasStepped, SameButOutboxes, SameButPending, announced_at}
-use Rattle.scmi_core.proofs.Situations.{nothing_if, nothing-made}
+use Rattle.scmi_core.proofs.Situations.{nothing-made}
 
 pick : {A : Type 0} (b : Bool) (x old : A) → unwrap_or (if b then Some x else None) old ≡ (if b then x else old)
 pick true x old = refl
@@ -63,18 +62,26 @@ all_one P p h = All-cons P p [] h (All-nil P)
 
 -- POWER
 
+power-given : (a : ℕ) (now : Option (ℕ × ℕ)) → option_map (given a) (option_map state_effect now) ≡ option_map (state_change a) now
+power-given a None = refl
+power-given a (Some set) = refl
+
+power-accepted : (a : ℕ) (header : HeaderFields) (later : Option (ℕ × ℕ)) → option_map (set_of a header) (option_map state_later later) ≡ option_map (state_set a header) later
+power-accepted a header None = refl
+power-accepted a header (Some set) = refl
+
 pub change-power : (board : Board) (a : ℕ) (header : HeaderFields) (c : PowerCommand) (reply : List ℕ)
     → change_of board (success_of a header (Ok (Power c)) reply) None ≡ option_map (state_change a) (if_success reply (set_now c))
 change-power board a header c reply = by (begins_with_success reply) where
   by : (b : Bool) → option_or None (option_and_then (change_now board) (if b then success_with a header (Ok (Power c)) else None)) ≡ option_map (state_change a) (if b then set_now c else None)
-  by true = refl
+  by true = power-given a (set_now c)
   by false = refl
 
 pending_sets-power : (board : Board) (a : ℕ) (header : HeaderFields) (c : PowerCommand) (reply : List ℕ)
     → option_and_then (acceptance board) (success_of a header (Ok (Power c)) reply) ≡ option_map (state_set a header) (if_success reply (set_later c))
 pending_sets-power board a header c reply = by (begins_with_success reply) where
   by : (b : Bool) → option_and_then (acceptance board) (if b then success_with a header (Ok (Power c)) else None) ≡ option_map (state_set a header) (if b then set_later c else None)
-  by true = refl
+  by true = power-accepted a header (set_later c)
   by false = refl
 
 subscription-power : (a : ℕ) (header : HeaderFields) (c : PowerCommand) (reply : List ℕ) (x d : ℕ) (old : Bool)
@@ -191,70 +198,3 @@ power-stepped board t n new power' a header c reply changed later differs few fe
             subst (λ o. IfSome o (λ s. differs ≡ not (s.1 == state_at t.power s.0))) e says,
             ap (λ p. is_subscribed p x set.0) kept1.power ∙ subs x set.0 lo' (omega (arith, few_agents)) (omega (arith, few)) ∙ nothing_asked reply (notification x set.0 a c) (is_subscribed t.power x set.0) (no_request board c set x set.0 a now),
           )
-
--- COMPLETION
-
-pub state-completed : (board : Board) (t m new : Tables) (power' : PowerTables) (left : List PendingSet) (a : ℕ) (header : HeaderFields) (wanted : Bool) (d s : ℕ) (differs : Bool)
-    → length board.domains ≤ 32 → 1 ≤ a → a ≤ length board.agents → d < length board.domains
-    → slice_get t.pending 0 ≡ Some (record { agent = a; setting = setting.State d s; header = header; wanted = wanted })
-    → left ≡ drop 1 t.pending
-    → ((e : ℕ) → e < 32 → state_at power' e ≡ (if d == e then s else state_at t.power e))
-    → power'.subscribers ≡ t.power.subscribers
-    → differs ≡ not (s == state_at t.power d)
-    → SameButOutboxes (record { base = t.base; power = power'; clocks = t.clocks; pending = left; outboxes = t.outboxes }) m
-    → ((x : ℕ) → 1 ≤ x → outbox_at m x ≡ outbox_at t x ++ response_for x (record { agent = a; setting = setting.State d s; header = header; wanted = wanted }))
-    → SameButOutboxes m new
-    → ((x : ℕ) → 1 ≤ x → x ≤ length board.agents → outbox_at new x ≡ outbox_at m x ++ announced_at m x a (Some (d, s)) differs)
-    → HasStepped board t None (slice_get t.pending 0) new
-state-completed board t m new power' left a header wanted d s differs few lo hi within first rest states subs says kept1 resp kept2 told =
-    let done : PendingSet = record { agent = a; setting = setting.State d s; header = header; wanted = wanted } in
-    let pend : new.pending ≡ drop 1 t.pending = (kept2.pending ∙ kept1.pending) ∙ rest in
-    subst (λ o. HasStepped board t None o new) (sym first) (record {
-      permissions = λ x e scope lo' small. ap (λ b. is_allowed b x e scope) (kept2.base ∙ kept1.base);
-      subscriptions = λ x e lo' hi' small. ap (λ p. is_subscribed p x e) (kept2.power ∙ kept1.power) ∙ same_subs x e;
-      values = values;
-      known = within;
-      pending = pend ∙ sym (append-nil (drop 1 t.pending));
-      known_sets = λ all. subst (All (IsOfBoard board)) (sym pend) (All-drop (IsOfBoard board) 1 t.pending all);
-      outboxes = λ x lo' hi'.
-          told x lo' hi'
-          ∙ ap (λ b. b ++ announced_at m x a (Some (d, s)) differs) (resp x lo')
-          ∙ append_assoc (outbox_at t x) (response_for x done) (announced_at m x a (Some (d, s)) differs)
-          ∙ ap (λ ys. outbox_at t x ++ (response_for x done ++ ys))
-          (announced-after t m new.pending (response_for x done) x a d s differs (resp x lo') (sym (kept2.pending)) says (ap (λ p. is_subscribed p x d) kept1.power ∙ same_subs x d));
-    }) where
-      same_subs : (x e : ℕ) → is_subscribed power' x e ≡ is_subscribed t.power x e
-      same_subs x e = ap (λ l. bit_at (get_or l e 0) (x - 1) == 1) subs
-
-      values : (x : Thing) → IsThing board x → value_at new x ≡ unwrap_or (option_and_then (value_in x) (Some (state_change a (d, s)))) (value_at t x)
-      values (State e) inside = ap (λ p. state_at p e) (kept2.power ∙ kept1.power) ∙ states e (omega arith) ∙ sym (pick (d == e) s (state_at t.power e))
-      values (Rate k) inside = ap (λ p. rate_at p k) (kept2.clocks ∙ kept1.clocks)
-      values (Enabled k) inside = ap (λ p. bit_value (enabled_at p k)) (kept2.clocks ∙ kept1.clocks)
-
-pub rate-completed : (board : Board) (t new : Tables) (clocks' : ClockTables) (left : List PendingSet) (a : ℕ) (header : HeaderFields) (wanted : Bool) (k rate : ℕ)
-    → length board.clocks ≤ 32 → 1 ≤ a → a ≤ length board.agents → k < length board.clocks
-    → slice_get t.pending 0 ≡ Some (record { agent = a; setting = setting.Rate k rate; header = header; wanted = wanted })
-    → left ≡ drop 1 t.pending
-    → ((e : ℕ) → e < 32 → rate_at clocks' e ≡ (if k == e then rate else rate_at t.clocks e))
-    → clocks'.enabled ≡ t.clocks.enabled
-    → SameButOutboxes (record { base = t.base; power = t.power; clocks = clocks'; pending = left; outboxes = t.outboxes }) new
-    → ((x : ℕ) → 1 ≤ x → outbox_at new x ≡ outbox_at t x ++ response_for x (record { agent = a; setting = setting.Rate k rate; header = header; wanted = wanted }))
-    → HasStepped board t None (slice_get t.pending 0) new
-rate-completed board t new clocks' left a header wanted k rate few lo hi within first rest rates enabled kept resp =
-    let done : PendingSet = record { agent = a; setting = setting.Rate k rate; header = header; wanted = wanted } in
-    let pend : new.pending ≡ drop 1 t.pending = kept.pending ∙ rest in
-    subst (λ o. HasStepped board t None o new) (sym first) (record {
-      permissions = λ x e scope lo' small. ap (λ b. is_allowed b x e scope) kept.base;
-      subscriptions = λ x e lo' hi' small. ap (λ p. is_subscribed p x e) kept.power;
-      values = values;
-      known = within;
-      pending = pend ∙ sym (append-nil (drop 1 t.pending));
-      known_sets = λ all. subst (All (IsOfBoard board)) (sym pend) (All-drop (IsOfBoard board) 1 t.pending all);
-      outboxes = λ x lo' hi'.
-          resp x lo' ∙ ap (λ ys. outbox_at t x ++ ys) (sym (append-nil (response_for x done))
-          ∙ ap (λ ys. response_for x done ++ ys) (sym (nothing_if (nat_lt (length (outbox_at t x) + length (response_for x done) + length (sets_by x new.pending)) 16))));
-    }) where
-      values : (x : Thing) → IsThing board x → value_at new x ≡ unwrap_or (option_and_then (value_in x) (Some (record { thing = Rate k; value = rate; causer = a }))) (value_at t x)
-      values (State e) inside = ap (λ p. state_at p e) kept.power
-      values (Rate e) inside = ap (λ p. rate_at p e) kept.clocks ∙ rates e (omega arith) ∙ sym (pick (k == e) rate (rate_at t.clocks e))
-      values (Enabled e) inside = ap (λ p. bit_value (enabled_at p e)) kept.clocks ∙ ap (λ l. bit_value (get_or l e false)) enabled

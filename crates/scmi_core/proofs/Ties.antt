@@ -27,7 +27,8 @@ use Rattle.scmi_core.specs.declared.event.Event.TheVariants.{Command, Advance, S
 use Rattle.scmi_core.specs.declared.tables.Tables.{Tables}
 use Rattle.std.specs.Option.{option_to_list, option_and_then, option_map_or, option_or}
 use Rattle.scmi_core.specs.Deed.{Deed, restarted_by, success_with, fold_with_prefix, success_of}
-use Rattle.scmi_core.specs.Permissions.{permission_in, has_permission}
+use Rattle.scmi_core.specs.Commands.{permission_in}
+use Rattle.scmi_core.specs.Permissions.{has_permission}
 use Rattle.scmi_core.specs.Subscriptions.{subscription, subscription_after_reset, is_subscriber}
 use Rattle.scmi_core.specs.Value.{value, change_by, commanded_by, completed_set, failed_set, reported, Thing, State, Rate, Enabled, bit_value, set_to_change, value_in, value_at_start, change_of}
 use Rattle.scmi_core.specs.Pending.{acceptance, has_set_of, pending_sets, promoted, setting_with, settled, unwanted}

@@ -6,12 +6,9 @@ use Rattle.std.proofs.lemmas.List.Elements.{All-append, All-cons, All-nil}
 use Rattle.scmi_codec.specs.Header.{HeaderFields}
 use Rattle.scmi_codec.specs.Payload.{begins_with_success}
 use Rattle.scmi_codec.specs.declared.command.Command as codec
-use Rattle.scmi_codec.specs.declared.command.Command.TheVariants.{Base, Power, Clock}
 use Rattle.scmi_codec.specs.declared.frame.Frame.TheVariants.{Good, Malformed}
 use Rattle.scmi_codec.specs.declared.status.Status.{Status}
 use Rattle.scmi_plan.specs.Board.{Board}
-use Rattle.scmi_base.specs.BaseReply.{base_reply}
-use Rattle.scmi_base.proofs.BaseLaws as base_laws
 use Rattle.scmi_core.specs.declared.event.Event.{Event}
 use Rattle.scmi_core.specs.declared.event.Event.TheVariants.{Command, Advance, Sent, CommandFailed, AdvanceFailed, Restarted, Promoted, Settled, Reported}
 use Rattle.scmi_core.specs.Deed.{fold_with_prefix, success_of, success_with, successes}
@@ -21,6 +18,7 @@ use Rattle.scmi_core.specs.Outbox.{situation_after}
 use Rattle.scmi_core.specs.ReadCommand.{command_on}
 use Rattle.scmi_core.specs.Reply.{fits_channel, reply_words}
 use Rattle.scmi_core.specs.Situation.{Situation}
+use Rattle.scmi_core.proofs.CommandLaws.{trusted}
 use Rattle.scmi_core.proofs.Deeds.{added_success, successes-push}
 use Rattle.scmi_core.proofs.Legal.{Grown, deeds-push, empty, grow, grown}
 
@@ -31,17 +29,9 @@ success-trusted board a header s (Err e) = by (begins_with_success (reply_words 
   by : (b : Bool) → All (IsTrusted board) (option_to_list (if b then success_with a header (Err e) else None))
   by true = All-nil (IsTrusted board)
   by false = All-nil (IsTrusted board)
-success-trusted board a header s (Ok (Power c)) = by (begins_with_success (reply_words board a s (Ok (Power c)))) where
-  by : (b : Bool) → All (IsTrusted board) (option_to_list (if b then success_with a header (Ok (Power c)) else None))
-  by true = All-cons (IsTrusted board) (record { caller = a; header = header; command = Power c }) [] (λ x d scope some. absurd (some refl)) (All-nil (IsTrusted board))
-  by false = All-nil (IsTrusted board)
-success-trusted board a header s (Ok (Clock c)) = by (begins_with_success (reply_words board a s (Ok (Clock c)))) where
-  by : (b : Bool) → All (IsTrusted board) (option_to_list (if b then success_with a header (Ok (Clock c)) else None))
-  by true = All-cons (IsTrusted board) (record { caller = a; header = header; command = Clock c }) [] (λ x d scope some. absurd (some refl)) (All-nil (IsTrusted board))
-  by false = All-nil (IsTrusted board)
-success-trusted board a header s (Ok (Base c)) = by (begins_with_success (base_reply board a c)) refl where
-  by : (b : Bool) → begins_with_success (base_reply board a c) ≡ b → All (IsTrusted board) (option_to_list (if b then success_with a header (Ok (Base c)) else None))
-  by true ok = All-cons (IsTrusted board) (record { caller = a; header = header; command = Base c }) [] (base_laws.trusted board a c ok) (All-nil (IsTrusted board))
+success-trusted board a header s (Ok c) = by (begins_with_success (reply_words board a s (Ok c))) refl where
+  by : (b : Bool) → begins_with_success (reply_words board a s (Ok c)) ≡ b → All (IsTrusted board) (option_to_list (if b then success_with a header (Ok c) else None))
+  by true ok = All-cons (IsTrusted board) (record { caller = a; header = header; command = c }) [] (trusted board a s header c ok) (All-nil (IsTrusted board))
   by false ok = All-nil (IsTrusted board)
 
 deed-trusted : (board : Board) (h : List Event) (e : Event) → All (IsTrusted board) (option_to_list (added_success board (deed_after board (deeds board h) e)))

@@ -8,8 +8,6 @@ use Rattle.scmi_plan.specs.Board.{Board}
 use Rattle.scmi_plan.specs.declared.effect.Effect.{Effect}
 use Rattle.scmi_plan.specs.declared.effect.Effect.TheVariants as effect
 use Rattle.scmi_core.specs.declared.event.Event.{Event}
-use Rattle.scmi_core.specs.declared.pending_set.Setting.{Setting}
-use Rattle.scmi_core.specs.declared.pending_set.Setting.TheVariants as setting
 use Rattle.scmi_core.specs.Deed.{success_of}
 use Rattle.scmi_core.specs.History.{deeds, deed_after}
 use Rattle.scmi_core.specs.ReadCommand.{command_on}
@@ -24,11 +22,6 @@ effect_of change = given_to change.thing where
   given_to (State d) = effect.State d change.value
   given_to (Rate c) = effect.Rate c change.value
   given_to (Enabled c) = effect.Enabled c (change.value == 1)
-
--- what a pending set changes when it completes
-abbrev pub setting_effect : Setting → Effect
-setting_effect (setting.State d state) = effect.State d state
-setting_effect (setting.Rate c rate) = effect.Rate c rate
 
 -- the effect that an event has after a history, if it has one
 abbrev pub effect_after : Board → List Event → Event → Option Effect

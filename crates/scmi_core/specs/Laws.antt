@@ -1,5 +1,5 @@
 -- What every legal history keeps between its agents: who changed what, and what a refused command is to the others.
-use Rattle.std.specs.Prelude.{◌≡◌, ◌≢◌, ◌⊎◌, ℕ, ◌==◌, ◌&&◌, Bool, true, false, not, if◌then◌else◌, List, [], ◌∷◌, ◌++◌, length, Option, Some, None, option_map}
+use Rattle.std.specs.Prelude.{◌≡◌, ◌≢◌, ◌⊎◌, ℕ, ◌&&◌, Bool, true, false, not, if◌then◌else◌, List, [], ◌∷◌, ◌++◌, length, Option, Some, None, option_map}
 use Rattle.std.specs.List.{All}
 use Rattle.std.specs.Option.{is_some, option_and_then, option_or}
 use Rattle.scmi_codec.specs.Payload.{begins_with_success}
@@ -7,10 +7,7 @@ use Rattle.scmi_codec.specs.declared.message.Message.{Message}
 use Rattle.scmi_codec.specs.declared.frame.Frame.TheVariants.{Good}
 use Rattle.scmi_plan.specs.Agent.{IsAgent}
 use Rattle.scmi_plan.specs.Board.{Board, is_free, is_kept}
-use Rattle.scmi_plan.specs.declared.resource.Resource.{Resource}
-use Rattle.scmi_plan.specs.declared.resource.Resource.TheVariants as resource
 use Rattle.scmi_base.specs.Permission.{may}
-use Rattle.scmi_power.specs.PowerReply.{state_off}
 use Rattle.scmi_plan.specs.declared.scope.Scope.{Scope}
 use Rattle.scmi_core.specs.declared.event.Event.{Event}
 use Rattle.scmi_plan.specs.declared.effect.Effect.{Effect}
@@ -21,8 +18,9 @@ use Rattle.scmi_core.specs.History.{deed_after, deeds, delivered_messages, made_
 use Rattle.scmi_core.specs.Legal.{IsLegal}
 use Rattle.scmi_core.specs.Outbox.{situation_after}
 use Rattle.scmi_core.specs.Pending.{acceptance}
-use Rattle.scmi_core.specs.Permissions.{has_permission, permission_in}
-use Rattle.scmi_core.specs.Value.{Change, Enabled, IsReportable, Rate, State, Thing, change_now, change_reported, changes, completion}
+use Rattle.scmi_core.specs.Commands.{permission_in}
+use Rattle.scmi_core.specs.Permissions.{has_permission}
+use Rattle.scmi_core.specs.Value.{Change, IsReportable, Rate, Thing, change_now, change_reported, changes, completion, is_off, resource_of}
 
 -- whether an event is a command of agent a, done or failed, that was answered with another status than 0, or was malformed
 abbrev pub is_refused : Board → ℕ → List Event → Event → Bool
@@ -47,21 +45,9 @@ pub record HasIsolation (board : Board) (h : List Event) : Type 0 where
   pub legal : (a : ℕ) → IsLegal board (without_refused board a h)
   pub alike : (a : ℕ) → AreAlikeBut board a (without_refused board a h) h
 
--- the domain or clock that a thing is of
-abbrev pub resource_of : Thing → Resource
-resource_of (State d) = resource.Domain d
-resource_of (Rate c) = resource.Clock c
-resource_of (Enabled c) = resource.Clock c
-
 -- whether agent a may change a thing after a history
 abbrev pub may_after : Board → List Event → ℕ → Thing → Bool
 may_after board h a x = may board (λ device scope. has_permission board a device scope (deeds board h)) (resource_of x)
-
--- whether a value switches a thing off: a domain's state OFF, or a clock's enabled bit 0
-abbrev pub is_off : Thing → ℕ → Bool
-is_off (State d) value = value == state_off
-is_off (Rate c) value = false
-is_off (Enabled c) value = value == 0
 
 -- a change does not switch off what the board keeps
 abbrev pub IsKeptOn : Board → Change → Type 0

@@ -1,3 +1,4 @@
+pub mod Commands
 pub mod ReadCommand
 pub mod Deed
 pub mod Permissions

@@ -3,13 +3,9 @@ use Rattle.std.specs.Prelude.{ℕ, ◌+◌, ◌==◌, ◌&&◌, nat_lt, Bool, tr
 use Rattle.std.specs.List.{list_any}
 use Rattle.std.specs.Option.{option_and_then, option_to_list}
 use Rattle.scmi_codec.specs.Header.{HeaderFields}
-use Rattle.scmi_codec.specs.declared.command.Command.TheVariants.{Base, Power, Clock}
-use Rattle.scmi_codec.specs.declared.command.Command as codec
 use Rattle.scmi_plan.specs.Board.{Board}
 use Rattle.scmi_plan.specs.declared.resource.Resource.{Resource}
 use Rattle.scmi_plan.specs.declared.resource.Resource.TheVariants as resource
-use Rattle.scmi_power.specs.PowerTable.{set_later}
-use Rattle.scmi_clock.specs.ClockTable.{rate_later}
 use Rattle.scmi_plan.specs.declared.limits.TheConstants.{PENDING_SETS}
 use Rattle.scmi_core.specs.declared.outboxes.TheConstants.{OUTBOX_ROOM}
 use Rattle.scmi_core.specs.declared.pending_set.PendingSet.{PendingSet}
@@ -17,24 +13,25 @@ use Rattle.scmi_core.specs.declared.pending_set.Setting.{Setting}
 use Rattle.scmi_core.specs.declared.event.Event.{Event}
 use Rattle.scmi_core.specs.declared.event.Event.TheVariants.{Advance, AdvanceFailed, Restarted, Promoted}
 use Rattle.scmi_core.specs.declared.event.Event.TheVariants as event
+use Rattle.scmi_core.specs.Commands.{Later, later_of, rate_later_as, state_later}
 use Rattle.scmi_core.specs.Deed.{Deed, Success, fold_with_prefix, success_at}
 use Rattle.scmi_core.specs.declared.pending_set.Setting.TheVariants as setting
 
--- a domain's set that is accepted for later: domain and state; it always wants a delayed response (own)
-abbrev pub state_set : ℕ → HeaderFields → ℕ × ℕ → PendingSet
-state_set a header set = record { agent = a; setting = setting.State set.0 set.1; header = header; wanted = true }
+-- a set of agent a that is accepted for later
+abbrev pub set_of : ℕ → HeaderFields → Later → PendingSet
+set_of a header later = record { agent = a; setting = later.setting; header = header; wanted = later.wanted }
 
--- a clock's set that is accepted for later: clock, rounded rate, and whether a delayed response is wanted (DEN0056B, clock management protocol)
+-- a domain's set
+abbrev pub state_set : ℕ → HeaderFields → ℕ × ℕ → PendingSet
+state_set a header set = set_of a header (state_later set)
+
+-- a clock's set
 abbrev pub rate_set : ℕ → HeaderFields → ℕ × ℕ × Bool → PendingSet
-rate_set a header set = record { agent = a; setting = setting.Rate set.0 set.1; header = header; wanted = set.2 }
+rate_set a header set = set_of a header (rate_later_as set)
 
 -- the set that a success leaves pending
 abbrev pub acceptance : Board → Success → Option PendingSet
-acceptance board s = accepted_by s.command where
-  accepted_by : codec.Command → Option PendingSet
-  accepted_by (Power c) = option_map (state_set s.caller s.header) (set_later c)
-  accepted_by (Clock c) = option_map (rate_set s.caller s.header) (rate_later board c)
-  accepted_by (Base c) = None
+acceptance board s = option_map (set_of s.caller s.header) (later_of board s.command)
 
 -- whether an event ends a set: it completes it, or the hardware refused its change
 abbrev pub is_advance : Event → Bool

@@ -6,24 +6,23 @@ use Rattle.scmi_codec.specs.declared.frame.Frame.{Frame}
 use Rattle.scmi_codec.specs.declared.frame.Frame.TheVariants.{Good, Malformed}
 use Rattle.scmi_codec.specs.declared.frame.Answer.{Answer}
 use Rattle.scmi_codec.specs.declared.frame.Answer.TheVariants.{Reply, ChannelError}
-use Rattle.scmi_codec.specs.declared.command.Command.TheVariants.{Base, Power, Clock}
 use Rattle.scmi_codec.specs.Status.{status_word}
 use Rattle.scmi_codec.specs.declared.command.Command as codec
 use Rattle.scmi_plan.specs.Board.{Board, channel_of}
-use Rattle.scmi_base.specs.BaseReply.{base_reply}
-use Rattle.scmi_power.specs.PowerReply.{power_reply}
-use Rattle.scmi_clock.specs.ClockReply.{clock_reply}
 use Rattle.scmi_codec.specs.declared.fault.Fault.{Fault}
+use Rattle.scmi_base.specs.Permission.{may}
+use Rattle.scmi_base.specs.Protocol.{Protocol}
+use Rattle.scmi_core.specs.Commands.{changes_nothing, later_effect_of, now_of, reply_by, request_of}
 use Rattle.scmi_core.specs.Outbox.{failed_words, message_with}
 use Rattle.scmi_core.specs.ReadCommand.{command_on}
-use Rattle.scmi_core.specs.Situation.{Situation, clock_view, power_view}
+use Rattle.scmi_core.specs.Pending.{has_set_of}
+use Rattle.scmi_core.specs.Situation.{Situation, has_room, views}
+use Rattle.scmi_core.specs.Value.{is_off, thing_of, value_of}
 
 -- the payload of the reply to a command of agent a, or to a message that is not a command: its status alone
 unfoldable pub reply_words : Board → ℕ → Situation → Result codec.Command Status → List ℕ
 reply_words board a s (Err e) = status_word e ∷ []
-reply_words board a s (Ok (Base c)) = base_reply board a c
-reply_words board a s (Ok (Power c)) = power_reply board (power_view board a s) c
-reply_words board a s (Ok (Clock c)) = clock_reply board (clock_view board a s) c
+reply_words board a s (Ok c) = reply_by board a (views board a s) c
 
 -- whether a message of agent a has no more payload words than its channel
 abbrev pub fits_channel : Board → ℕ → Message → Bool
@@ -47,3 +46,18 @@ answer_in board a (Malformed len header) s = ChannelError
 abbrev pub failed_answer : Frame → Fault → Answer
 failed_answer (Good m) fault = Reply (message_with m.header (failed_words fault))
 failed_answer (Malformed len header) fault = ChannelError
+
+-- the commands of all protocols as the relation that each protocol is; those of the base protocol change no domain and no clock
+abbrev pub commands : Board → ℕ → Protocol Situation codec.Command
+commands board a = record {
+  may = λ s. may board s.allowed;
+  busy = λ s r. has_set_of r s.pending;
+  room = has_room board a;
+  channel = λ s. channel_of board a;
+  reply = λ on s c. reply_by on a (views board a s) c;
+  now = now_of;
+  later = later_effect_of;
+  only_reads = changes_nothing;
+  request = request_of;
+  switches_off = λ e. is_off (thing_of e) (value_of e);
+}

@@ -1,7 +1,7 @@
 -- What is said of the hardware.
 use Rattle.std.specs.Prelude.{Option, Some, option_map, slice_get}
 use Rattle.scmi_core.specs.Asked.{Asked, Made, Refused}
-use Rattle.scmi_core.specs.Effect.{setting_effect}
+use Rattle.scmi_core.specs.Commands.{setting_effect}
 use Rattle.scmi_core.specs.Standing.{Standing}
 use Rattle.scmi_plan.specs.declared.effect.Effect.{Effect}
 use Rattle.scmi_core.specs.declared.said.Saying.{Saying}

@@ -8,6 +8,7 @@ use Rattle.scmi_plan.specs.declared.scope.Scope.{Scope}
 use Rattle.scmi_power.specs.PowerReply.{PowerView}
 use Rattle.scmi_clock.specs.ClockReply.{ClockView}
 use Rattle.scmi_core.specs.declared.pending_set.PendingSet.{PendingSet}
+use Rattle.scmi_core.specs.Commands.{Views}
 use Rattle.scmi_core.specs.Value.{Enabled, Rate, State, Thing}
 use Rattle.scmi_core.specs.Pending.{has_room_beside, has_set_of}
 
@@ -50,3 +51,7 @@ clock_view board a s =
       room = has_room board a s;
       channel = channel_of board a;
     }
+
+-- what the replies to agent a read
+abbrev pub views : Board → ℕ → Situation → Views
+views board a s = record { power = power_view board a s; clock = clock_view board a s }

@@ -21,7 +21,7 @@ use Rattle.scmi_core.specs.Outboxes.{Gets, HasSameOutbox}
 use Rattle.scmi_core.specs.Tables.{IsOfBoard, IsThing, load_at, outbox_at, situation_in, value_at}
 use Rattle.scmi_core.specs.Deed.{Success, success_of}
 use Rattle.scmi_core.specs.Pending.{acceptance, promoted, settled, unwanted}
-use Rattle.scmi_core.specs.Permissions.{permission_in}
+use Rattle.scmi_core.specs.Commands.{permission_in}
 use Rattle.scmi_core.specs.Outbox.{failed_response_for, made_in, state_changed}
 use Rattle.scmi_core.specs.ReadCommand.{command_on}
 use Rattle.scmi_core.specs.Reply.{words_given}
@@ -98,8 +98,8 @@ pub record HasSettled (clock rate : ℕ) (t new : Tables) : Type 0 where
   pub pending : new.pending ≡ map (settled clock rate) t.pending
   pub rest : SameButPending t new
 
--- the hardware reported a change: its thing has the new value, subscribers are notified of it, and nothing else changed
-pub record HasReported (board : Board) (change : Change) (t new : Tables) : Type 0 where
+-- the hardware made a change: its thing has the new value, subscribers are notified of it, and nothing else changed
+pub record HasChanged (board : Board) (change : Change) (t new : Tables) : Type 0 where
   pub base : new.base ≡ t.base
   pub subscribers : new.power.subscribers ≡ t.power.subscribers
   pub values : (x : Thing) → IsThing board x → value_at new x ≡ unwrap_or (value_in x change) (value_at t x)

@@ -2,11 +2,8 @@
 use Rattle.std.specs.Prelude.{ℕ, ◌==◌, Bool, false, if◌then◌else◌, List, Option, Some, None}
 use Rattle.std.specs.List.{filter_map}
 use Rattle.std.specs.Option.{option_and_then, option_or}
-use Rattle.scmi_codec.specs.declared.command.Command.TheVariants.{Base, Power, Clock}
-use Rattle.scmi_codec.specs.declared.command.Command as codec
-use Rattle.scmi_base.specs.Permission.{reset_by}
-use Rattle.scmi_power.specs.PowerTable.{notification}
 use Rattle.scmi_plan.specs.Board.{Board}
+use Rattle.scmi_core.specs.Commands.{request_of, reset_of}
 use Rattle.scmi_core.specs.Deed.{Deed, Success, latest, restarted_by, success_at}
 
 -- a reset ends the notification requests of its agent (own)
@@ -16,11 +13,8 @@ subscription_after_reset a (Some agent) = if agent == a then Some false else Non
 
 -- what a success says about the subscription of agent a to domain d
 abbrev pub subscription : ℕ → ℕ → Success → Option Bool
-subscription a d s = said_by s.command where
-  said_by : codec.Command → Option Bool
-  said_by (Power c) = notification a d s.caller c
-  said_by (Base c) = subscription_after_reset a (reset_by c)
-  said_by (Clock c) = None
+subscription a d s =
+    option_or (subscription_after_reset a (reset_of s.command)) (request_of a d s.caller s.command)
 
 -- what a deed says about it: a restart of the agent ends its requests, as a reset does (own)
 abbrev pub subscription_at : Board → ℕ → ℕ → Deed → Option Bool

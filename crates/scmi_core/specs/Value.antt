@@ -2,23 +2,21 @@
 use Rattle.std.specs.Prelude.{◌≡◌, ℕ, ◌==◌, ◌<◌, ◌≤◌, Bool, true, false, if◌then◌else◌, List, length, slice_get, Option, Some, None, option_map}
 use Rattle.std.specs.List.{filter_map}
 use Rattle.std.specs.Option.{option_and_then, option_or, option_to_list}
-use Rattle.scmi_codec.specs.declared.command.Command.TheVariants.{Base, Power, Clock}
-use Rattle.scmi_codec.specs.declared.command.Command as codec
 use Rattle.scmi_plan.specs.Board.{Board, domain_at, clock_at}
 use Rattle.scmi_power.specs.PowerReply.{is_state, state_on, state_off}
-use Rattle.scmi_power.specs.PowerTable.{set_now}
-use Rattle.scmi_clock.specs.ClockTable.{rate_now, enabled_now}
 use Rattle.scmi_core.specs.declared.pending_set.PendingSet.{PendingSet}
 use Rattle.scmi_core.specs.declared.pending_set.Setting.{Setting}
 use Rattle.scmi_core.specs.declared.event.Event.{Event}
 use Rattle.scmi_core.specs.declared.event.Event.TheVariants.{Advance, AdvanceFailed, CommandFailed, Reported}
+use Rattle.scmi_plan.specs.declared.resource.Resource.{Resource}
+use Rattle.scmi_plan.specs.declared.resource.Resource.TheVariants as resource
 use Rattle.scmi_plan.specs.declared.effect.Effect.{Effect}
 use Rattle.scmi_plan.specs.declared.effect.Effect.TheVariants as effect
 use Rattle.scmi_codec.specs.declared.fault.Fault.{Fault}
 use Rattle.scmi_codec.specs.declared.fault.Fault.TheVariants.{HardwareError}
+use Rattle.scmi_core.specs.Commands.{now_of, setting_effect}
 use Rattle.scmi_core.specs.Deed.{Deed, Success, flat_map_with_prefix, latest, success_at}
 use Rattle.scmi_core.specs.Pending.{pending_sets}
-use Rattle.scmi_core.specs.declared.pending_set.Setting.TheVariants as setting
 
 -- what has a value: a domain's state, a clock's rate in Hz, a clock's enabled bit
 pub data Thing : Type 0 where
@@ -33,34 +31,55 @@ same_thing (Rate c) (Rate e) = c == e
 same_thing (Enabled c) (Enabled e) = c == e
 same_thing _ _ = false
 
+-- the domain or clock that a thing is of
+abbrev pub resource_of : Thing → Resource
+resource_of (State d) = resource.Domain d
+resource_of (Rate c) = resource.Clock c
+resource_of (Enabled c) = resource.Clock c
+
+-- whether a value switches a thing off: a domain's state OFF, or a clock's enabled bit 0
+abbrev pub is_off : Thing → ℕ → Bool
+is_off (State d) value = value == state_off
+is_off (Rate c) value = false
+is_off (Enabled c) value = value == 0
+
 -- a value that an agent gave to a thing, or of which the hardware reported that the thing has it
 pub record Change : Type 0 where
   pub thing : Thing
   pub value : ℕ
   pub causer : ℕ
 
+-- a bit as a number
+abbrev pub bit_value : Bool → ℕ
+bit_value b = if b then 1 else 0
+
+-- the thing that an effect changes
+abbrev pub thing_of : Effect → Thing
+thing_of (effect.State d state) = State d
+thing_of (effect.Rate c rate) = Rate c
+thing_of (effect.Enabled c enabled) = Enabled c
+
+-- the value that it gives it
+abbrev pub value_of : Effect → ℕ
+value_of (effect.State d state) = state
+value_of (effect.Rate c rate) = rate
+value_of (effect.Enabled c enabled) = bit_value enabled
+
+-- an effect that agent a caused, as a change
+abbrev pub given : ℕ → Effect → Change
+given a e = record { thing = thing_of e; value = value_of e; causer = a }
+
 -- a setting of agent a, as a change
 abbrev pub set_to_change : ℕ → Setting → Change
-set_to_change a (setting.State d state) = record { thing = State d; value = state; causer = a }
-set_to_change a (setting.Rate c rate) = record { thing = Rate c; value = rate; causer = a }
+set_to_change a s = given a (setting_effect s)
 
 -- the change that a pending set makes when it completes
 abbrev pub completion : PendingSet → Change
 completion p = set_to_change p.agent p.setting
 
--- a bit as a number
-abbrev pub bit_value : Bool → ℕ
-bit_value b = if b then 1 else 0
-
 -- the change that a success makes at once: a synchronous set, or a clock configuration
 abbrev pub change_now : Board → Success → Option Change
-change_now board s = changed_by s.command where
-  changed_by : codec.Command → Option Change
-  changed_by (Power c) = option_map (λ set. record { thing = State set.0; value = set.1; causer = s.caller }) (set_now c)
-  changed_by (Clock c) =
-      option_or (option_map (λ set. record { thing = Rate set.0; value = set.1; causer = s.caller }) (rate_now board c))
-      (option_map (λ set. record { thing = Enabled set.0; value = bit_value set.1; causer = s.caller }) (enabled_now c))
-  changed_by (Base c) = None
+change_now board s = option_map (given s.caller) (now_of board s.command)
 
 -- the set that an event completes: the first that is pending before it
 abbrev pub completed_set : Board → List Deed → Event → Option PendingSet
@@ -84,9 +103,7 @@ change_of board success done = option_or (option_map completion done) (option_an
 
 -- what the hardware made by itself, as a change: no agent caused it, and so the platform did, whose number is 0
 abbrev pub change_reported : Effect → Change
-change_reported (effect.State d state) = record { thing = State d; value = state; causer = 0 }
-change_reported (effect.Rate c rate) = record { thing = Rate c; value = rate; causer = 0 }
-change_reported (effect.Enabled c enabled) = record { thing = Enabled c; value = bit_value enabled; causer = 0 }
+change_reported effect = given 0 effect
 
 -- the change that an event reports, if it is one that the hardware made by itself
 abbrev pub reported : Event → Option Change

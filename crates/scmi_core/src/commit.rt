@@ -64,14 +64,6 @@ impl Tables {
     {
         reply.header = message.header;
         set_payload(&mut reply.payload, &[SUCCESS]);
-        match effect {
-            Effect::State { domain, state } => {
-                let agents = plan.agents();
-                let differs = self.power.complete(domain, state);
-                self.announce(agents, agent, Some((domain, state)), differs);
-            }
-            Effect::Rate { clock, rate } => self.clocks.complete(clock, rate),
-            Effect::Enabled { clock, enabled } => self.clocks.set_enabled(clock, enabled),
-        }
+        self.change(plan, agent, effect);
     }
 }

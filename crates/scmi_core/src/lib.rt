@@ -6,6 +6,7 @@
 #![tactic(auto)]
 
 mod answered;
+mod change;
 mod channel;
 mod commit;
 mod core_effects;
@@ -44,7 +45,6 @@ mod platform_settle;
 mod platform_tell;
 mod promote;
 mod read_command;
-mod report;
 mod restart;
 mod said;
 mod settle;

@@ -1,6 +1,6 @@
 //! Sets that are accepted and not yet complete.
 ghost use Rattle.std.specs.Prelude.{◌≡◌, ◌↔◌, true};
-ghost use Rattle.scmi_core.specs.Effect.{setting_effect};
+ghost use Rattle.scmi_core.specs.Commands.{setting_effect};
 ghost use Rattle.scmi_core.specs.Pending.{is_set_by, setting_with};
 
 use scmi_codec::Header;

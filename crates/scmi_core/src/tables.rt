@@ -288,25 +288,17 @@ impl Tables {
         ensures stepped { HasStepped plan.now self.old None
             (slice_get self.old.pending 0) self.new }
     {
-        let agents = plan.agents();
+        let _agents = plan.agents();
         let done = self.pending.pop_first();
+        let effect = done.effect();
         let PendingSet {
             agent,
             setting,
             header,
             wanted,
         } = done;
-        match setting {
-            Setting::State(domain, state) => {
-                let differs = self.power.complete(domain, state);
-                self.outboxes.respond(agent, setting, header, wanted);
-                self.announce(agents, agent, Some((domain, state)), differs);
-            }
-            Setting::Rate(clock, rate) => {
-                self.clocks.complete(clock, rate);
-                self.outboxes.respond(agent, setting, header, wanted);
-            }
-        }
+        self.outboxes.respond(agent, setting, header, wanted);
+        self.change(plan, agent, effect);
     }
 
     /// Takes the first pending set off as failed with this fault.

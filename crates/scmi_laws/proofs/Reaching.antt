@@ -33,7 +33,7 @@ use Rattle.scmi_core.specs.Laws.{IsTrusted, change_asked, may_after}
 use Rattle.scmi_core.specs.Legal.{IsLegal}
 use Rattle.scmi_core.specs.Outbox.{made_in, notice_in, state_changed}
 use Rattle.scmi_core.specs.Pending.{acceptance, rate_set, sets_by, state_set}
-use Rattle.scmi_core.specs.Permissions.{permission_in}
+use Rattle.scmi_core.specs.Commands.{permission_in}
 use Rattle.scmi_core.specs.declared.outboxes.TheConstants.{OUTBOX_ROOM}
 use Rattle.scmi_codec.specs.declared.message.Message.{Message}
 use Rattle.scmi_core.specs.ReadCommand.{command_on}

@@ -18,7 +18,7 @@ use Rattle.scmi_core.specs.Deed.{Success, flat_map_with_prefix}
 use Rattle.scmi_core.specs.Laws.{AreAlikeBut, is_refused}
 use Rattle.scmi_core.specs.Legal.{IsLegal}
 use Rattle.scmi_core.specs.Pending.{acceptance}
-use Rattle.scmi_core.specs.Permissions.{permission_in}
+use Rattle.scmi_core.specs.Commands.{permission_in}
 use Rattle.scmi_core.specs.Subscriptions.{subscription}
 use Rattle.scmi_core.specs.Value.{change_now}
 
