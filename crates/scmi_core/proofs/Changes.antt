@@ -1,5 +1,5 @@
 -- What a change that the hardware made leaves: of a command that makes it at once, and of a set that completes.
-use Rattle.std.proofs.Common.{◌≡◌, ℕ, ◌+◌, ◌-◌, ◌≤◌, ◌==◌, ◌&&◌, nat_lt, true, false, not, List, [], ◌∷◌, ◌++◌, length, drop, get_or, slice_get, Option, Some, None, IfSome, option_map, unwrap_or, refl, sym, ap, ◌∙◌, subst, arith, if◌then◌else◌}
+use Rattle.std.proofs.Common.{Bool, true, false, ◌≡◌, ℕ, ◌+◌, ◌-◌, ◌≤◌, ◌==◌, ◌&&◌, nat_lt, not, List, [], ◌∷◌, ◌++◌, length, drop, get_or, slice_get, Option, Some, None, Ok, IfSome, option_map, unwrap_or, refl, sym, ap, ◌∙◌, subst, arith, if◌then◌else◌}
 use Rattle.std.specs.Int.{bit_at}
 use Rattle.std.specs.List.{All}
 use Rattle.std.specs.Option.{option_and_then, option_or, option_to_list}
@@ -8,6 +8,7 @@ use Rattle.std.proofs.lemmas.List.Elements.{All-drop}
 use Rattle.scmi_codec.specs.Header.{HeaderFields}
 use Rattle.scmi_codec.specs.declared.command.Command as codec
 use Rattle.scmi_codec.specs.declared.message.Message.{Message}
+use Rattle.scmi_codec.specs.Payload.{begins_with_success, if_success}
 use Rattle.scmi_plan.specs.Board.{Board}
 use Rattle.scmi_plan.specs.declared.effect.Effect.{Effect}
 use Rattle.scmi_plan.specs.declared.effect.Effect.TheVariants as effect
@@ -17,15 +18,16 @@ use Rattle.scmi_clock.specs.ClockTable.{enabled_at, rate_at}
 use Rattle.scmi_core.specs.declared.pending_set.PendingSet.{PendingSet}
 use Rattle.scmi_core.specs.declared.tables.Tables.{Tables}
 use Rattle.scmi_core.specs.Commands.{Later, later_of, now_of, request_of, setting_effect}
-use Rattle.scmi_core.specs.Deed.{Success}
+use Rattle.scmi_core.specs.Deed.{Success, success_of}
 use Rattle.scmi_core.specs.Effect.{effect_of}
 use Rattle.scmi_core.specs.Outbox.{made_in, notice_in, response_for, state_changed}
 use Rattle.scmi_core.specs.Pending.{acceptance, set_of, sets_by}
 use Rattle.scmi_core.specs.Step.{HasChanged, HasStepped}
 use Rattle.scmi_core.specs.Subscriptions.{subscription, subscription_after_reset}
 use Rattle.scmi_core.specs.Tables.{IsOfBoard, IsThing, outbox_at, situation_in, value_at}
-use Rattle.scmi_core.specs.Value.{Change, Enabled, Rate, State, Thing, bit_value, change_now, completion, given, value_in}
+use Rattle.scmi_core.specs.Value.{Change, Enabled, Rate, State, Thing, bit_value, change_now, change_of, completion, given, value_in}
 use Rattle.scmi_core.proofs.CommandLaws.{command_laws, unreset}
+use Rattle.scmi_core.proofs.Steps.{success-then}
 
 -- a change is its effect's, whoever caused it
 pub effect-given : (a : ℕ) (e : Effect) → effect_of (given a e) ≡ e
@@ -35,6 +37,16 @@ effect-given a (effect.Enabled c true) = refl
 effect-given a (effect.Enabled c false) = refl
 
 -- A COMMAND THAT MAKES IT AT ONCE
+
+-- the effect of a command is what it makes, if it succeeds
+pub command-effect : (board : Board) (a : ℕ) (header : HeaderFields) (c : codec.Command) (reply : List ℕ)
+    → if_success reply (now_of board c) ≡ option_map effect_of (change_of board (success_of a header (Ok c) reply) None)
+command-effect board a header c reply =
+    by (begins_with_success reply) (now_of board c) ∙ ap (option_map effect_of) (sym (success-then (change_now board) a header c reply)) where
+      by : (b : Bool) (now : Option Effect) → (if b then now else None) ≡ option_map effect_of (if b then option_map (given a) now else None)
+      by true None = refl
+      by true (Some e) = ap Some (sym (effect-given a e))
+      by false now = refl
 
 -- it leaves no set for later
 none_later : (later : Option Later) (now : Option Effect) (e : Effect)

@@ -1,12 +1,10 @@
 -- What a clock command or a base command leaves of the tables.
-use Rattle.std.proofs.Common.{◌≡◌, ◌⊎◌, inl, inr, ℕ, ◌<◌, ◌≤◌, ◌==◌, Bool, true, false, List, [], ◌++◌, length, get_or, Option, Some, None, IfSome, Result, Ok, unwrap_or, option_map, refl, sym, ap, ◌∙◌, subst, arith, if◌then◌else◌}
+use Rattle.std.proofs.Common.{◌≡◌, ◌⊎◌, inl, inr, ℕ, ◌<◌, ◌≤◌, ◌==◌, Bool, true, false, List, [], ◌++◌, length, get_or, Option, Some, None, IfSome, Ok, unwrap_or, option_map, refl, sym, ap, ◌∙◌, subst, arith, if◌then◌else◌}
 use Rattle.std.specs.List.{All}
 use Rattle.std.proofs.lemmas.List.{append-nil}
 use Rattle.std.proofs.lemmas.List.Elements.{All-append}
 use Rattle.scmi_codec.specs.Header.{HeaderFields}
 use Rattle.scmi_codec.specs.Payload.{begins_with_success}
-use Rattle.scmi_codec.specs.declared.status.Status.{Status}
-use Rattle.scmi_codec.specs.declared.command.Command as codec
 use Rattle.scmi_codec.specs.declared.command.Command.TheVariants.{Base, Clock}
 use Rattle.scmi_codec.specs.declared.base_command.BaseCommand.{BaseCommand}
 use Rattle.scmi_codec.specs.declared.clock_command.ClockCommand.{ClockCommand}
@@ -20,7 +18,7 @@ use Rattle.scmi_clock.proofs.ClockLaws.{never_both}
 use Rattle.scmi_core.specs.declared.pending_set.PendingSet.{PendingSet}
 use Rattle.scmi_core.specs.declared.tables.Tables.{Tables}
 use Rattle.std.specs.Option.{option_or, option_and_then, option_to_list}
-use Rattle.scmi_core.specs.Deed.{Success, success_with, success_of}
+use Rattle.scmi_core.specs.Deed.{success_with, success_of}
 use Rattle.scmi_core.specs.Commands.{permission_in, rate_later_as}
 use Rattle.scmi_clock.specs.ClockProtocol.{clock_effect}
 use Rattle.scmi_core.specs.Subscriptions.{subscription, subscription_after_reset}
@@ -30,7 +28,7 @@ use Rattle.scmi_core.specs.Tables.{outbox_at, value_at, IsThing, IsOfBoard, situ
 use Rattle.scmi_core.specs.Outbox.{made_in}
 use Rattle.scmi_core.specs.Step.{HasStepped, SameButPending}
 use Rattle.scmi_core.proofs.Situations.{nothing-made}
-use Rattle.scmi_core.proofs.Steps.{same_box, all_none, all_one}
+use Rattle.scmi_core.proofs.Steps.{all_none, all_one, same_box, says_nothing, success-mapped, success-then}
 
 pick : {A : Type 0} (b : Bool) (x old : A) → unwrap_or (if b then Some x else None) old ≡ (if b then x else old)
 pick true x old = refl
@@ -54,26 +52,31 @@ clock-accepted : (a : ℕ) (header : HeaderFields) (later : Option (ℕ × ℕ �
 clock-accepted a header None = refl
 clock-accepted a header (Some set) = refl
 
-pub change-clock : (board : Board) (a : ℕ) (header : HeaderFields) (c : ClockCommand) (reply : List ℕ)
-    → change_of board (success_of a header (Ok (Clock c)) reply) None ≡ either a (if_success reply (rate_now board c)) (if_success reply (enabled_now c))
-change-clock board a header c reply = by (begins_with_success reply) where
-  by : (b : Bool) → option_or None (option_and_then (change_now board) (if b then success_with a header (Ok (Clock c)) else None)) ≡ either a (if b then rate_now board c else None) (if b then enabled_now c else None)
-  by true = clock-given a (rate_now board c) (enabled_now c)
+pub effect-success : (reply : List ℕ) (rate : Option (ℕ × ℕ)) (enabled : Option (ℕ × Bool)) → if_success reply (clock_effect rate enabled) ≡ clock_effect (if_success reply rate) (if_success reply enabled)
+effect-success reply rate enabled = by (begins_with_success reply) where
+  by : (b : Bool) → (if b then clock_effect rate enabled else None) ≡ clock_effect (if b then rate else None) (if b then enabled else None)
+  by true = refl
   by false = refl
+
+either-success : (a : ℕ) (reply : List ℕ) (rate : Option (ℕ × ℕ)) (enabled : Option (ℕ × Bool)) → if_success reply (either a rate enabled) ≡ either a (if_success reply rate) (if_success reply enabled)
+either-success a reply rate enabled = by (begins_with_success reply) where
+  by : (b : Bool) → (if b then either a rate enabled else None) ≡ either a (if b then rate else None) (if b then enabled else None)
+  by true = refl
+  by false = refl
+
+change-clock : (board : Board) (a : ℕ) (header : HeaderFields) (c : ClockCommand) (reply : List ℕ)
+    → change_of board (success_of a header (Ok (Clock c)) reply) None ≡ either a (if_success reply (rate_now board c)) (if_success reply (enabled_now c))
+change-clock board a header c reply =
+    success-then (change_now board) a header (Clock c) reply
+    ∙ ap (if_success reply) (clock-given a (rate_now board c) (enabled_now c))
+    ∙ either-success a reply (rate_now board c) (enabled_now c)
 
 pending_sets-clock : (board : Board) (a : ℕ) (header : HeaderFields) (c : ClockCommand) (reply : List ℕ)
     → option_and_then (acceptance board) (success_of a header (Ok (Clock c)) reply) ≡ option_map (rate_set a header) (if_success reply (rate_later board c))
-pending_sets-clock board a header c reply = by (begins_with_success reply) where
-  by : (b : Bool) → option_and_then (acceptance board) (if b then success_with a header (Ok (Clock c)) else None) ≡ option_map (rate_set a header) (if b then rate_later board c else None)
-  by true = clock-accepted a header (rate_later board c)
-  by false = refl
-
-says_nothing : {Y : Type 0} (a : ℕ) (header : HeaderFields) (r : Result codec.Command Status) (reply : List ℕ) (f : Success → Option Y) (old : Y)
-    → option_and_then f (success_with a header r) ≡ None → unwrap_or (option_and_then f (success_of a header r reply)) old ≡ old
-says_nothing a header r reply f old e = by (begins_with_success reply) where
-  by : (b : Bool) → unwrap_or (option_and_then f (if b then success_with a header r else None)) old ≡ old
-  by true = ap (λ o. unwrap_or o old) e
-  by false = refl
+pending_sets-clock board a header c reply =
+    success-then (acceptance board) a header (Clock c) reply
+    ∙ ap (if_success reply) (clock-accepted a header (rate_later board c))
+    ∙ success-mapped (rate_set a header) reply (rate_later board c)
 
 state-same : (a d old : ℕ) (rate : Option (ℕ × ℕ)) (enabled : Option (ℕ × Bool)) → old ≡ unwrap_or (option_and_then (value_in (State d)) (either a rate enabled)) old
 state-same a d old None None = refl
@@ -136,8 +139,8 @@ pub clock-stepped : (board : Board) (t new : Tables) (clocks' : ClockTables) (a 
 clock-stepped board t new clocks' a header c reply later few lo hi is_later rates enabled known_later known kept pend =
     let change : change_of board (success_of a header (Ok (Clock c)) reply) None ≡ either a (if_success reply (rate_now board c)) (if_success reply (enabled_now c)) = change-clock board a header c reply in
     record {
-      permissions = λ x d scope lo' small. ap (λ b. is_allowed b x d scope) kept.base ∙ sym (says_nothing a header (Ok (Clock c)) reply (λ s. permission_in board x d scope s.command) (is_allowed t.base x d scope) refl);
-      subscriptions = λ x d lo' hi' small. ap (λ p. is_subscribed p x d) kept.power ∙ sym (says_nothing a header (Ok (Clock c)) reply (subscription x d) (is_subscribed t.power x d) refl);
+      permissions = λ x d scope lo' small. ap (λ b. is_allowed b x d scope) kept.base ∙ sym (says_nothing a header (Clock c) reply (λ s. permission_in board x d scope s.command) (is_allowed t.base x d scope) refl);
+      subscriptions = λ x d lo' hi' small. ap (λ p. is_subscribed p x d) kept.power ∙ sym (says_nothing a header (Clock c) reply (subscription x d) (is_subscribed t.power x d) refl);
       values = λ x within. values x within ∙ ap (λ o. unwrap_or (option_and_then (value_in x) o) (value_at t x)) (sym change);
       known = subst (λ o. IfSome o (λ ch. IsThing board ch.thing)) (sym change) (either-known board a (if_success reply (rate_now board c)) (if_success reply (enabled_now c)) known.0 known.1);
       pending = pend ∙ ap (λ o. t.pending ++ option_to_list o) (ap (option_map (rate_set a header)) is_later ∙ sym (pending_sets-clock board a header c reply));
@@ -157,17 +160,17 @@ clock-stepped board t new clocks' a header c reply later few lo hi is_later rate
 
 -- BASE
 
-pub change-base : (board : Board) (a : ℕ) (header : HeaderFields) (c : BaseCommand) (reply : List ℕ) → change_of board (success_of a header (Ok (Base c)) reply) None ≡ None
-change-base board a header c reply = by (begins_with_success reply) where
-  by : (b : Bool) → option_or None (option_and_then (change_now board) (if b then success_with a header (Ok (Base c)) else None)) ≡ None
+nothing : {X : Type 0} (reply : List ℕ) → ◌≡◌ {A = Option X} (if_success reply None) None
+nothing reply = by (begins_with_success reply) where
+  by : {X : Type 0} (b : Bool) → ◌≡◌ {A = Option X} (if b then None else None) None
   by true = refl
   by false = refl
 
+change-base : (board : Board) (a : ℕ) (header : HeaderFields) (c : BaseCommand) (reply : List ℕ) → change_of board (success_of a header (Ok (Base c)) reply) None ≡ None
+change-base board a header c reply = success-then (change_now board) a header (Base c) reply ∙ nothing reply
+
 pending_sets-base : (board : Board) (a : ℕ) (header : HeaderFields) (c : BaseCommand) (reply : List ℕ) → option_and_then (acceptance board) (success_of a header (Ok (Base c)) reply) ≡ None
-pending_sets-base board a header c reply = by (begins_with_success reply) where
-  by : (b : Bool) → option_and_then (acceptance board) (if b then success_with a header (Ok (Base c)) else None) ≡ None
-  by true = refl
-  by false = refl
+pending_sets-base board a header c reply = success-then (acceptance board) a header (Base c) reply ∙ nothing reply
 
 -- a reset asks for nothing else
 reset_alone : (o : Option Bool) → o ≡ option_or o None

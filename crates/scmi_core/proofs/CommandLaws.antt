@@ -1,7 +1,10 @@
 -- The commands of all protocols keep the laws of a protocol: the one file of proofs with an arm for each.
-use Rattle.std.proofs.Common.{◌≡◌, ℕ, ◌==◌, ◌≤◌, ◌&&◌, Bool, true, false, not, [], ◌∷◌, length, Option, Some, None, option_map, unwrap_or, refl, sym, ap, ◌∙◌, subst}
+use Rattle.std.proofs.Common.{◌≢◌, ◌≡◌, ℕ, ◌==◌, ◌≤◌, ◌&&◌, Bool, true, false, not, [], ◌∷◌, length, Option, Some, None, option_map, unwrap_or, refl, sym, ap, ◌∙◌, subst}
 use Rattle.std.specs.Option.{option_or}
+use Rattle.std.proofs.lemmas.Bool.{eq-eqb, eqb-true}
 use Rattle.scmi_codec.specs.Payload.{begins_with_success}
+use Rattle.scmi_codec.specs.Reply.{other_bits}
+use Rattle.scmi_codec.specs.declared.base_command.BaseCommand.TheVariants as base
 use Rattle.scmi_codec.specs.declared.command.Command as codec
 use Rattle.scmi_codec.specs.declared.command.Command.TheVariants.{Base, Power, Clock}
 use Rattle.scmi_plan.specs.Board.{Board, IsChannel, channel_of, is_kept}
@@ -10,7 +13,9 @@ use Rattle.scmi_plan.specs.declared.effect.Effect.TheVariants as effect
 use Rattle.scmi_plan.specs.declared.resource.Resource.{Resource}
 use Rattle.scmi_plan.specs.declared.resource.Resource.TheVariants as resource
 use Rattle.scmi_plan.specs.declared.scope.Scope.{Scope}
-use Rattle.scmi_base.specs.Permission.{may}
+use Rattle.scmi_plan.specs.declared.scope.Scope.TheVariants as scope
+use Rattle.scmi_base.specs.BaseReply.{base_reply, no_agent}
+use Rattle.scmi_base.specs.Permission.{is_scope, may, protocol_named}
 use Rattle.scmi_base.specs.Protocol.{HasResource, IsProtocol, Succeeds, change_wanted, resource_changed}
 use Rattle.scmi_base.proofs.BaseLaws as base_laws
 use Rattle.scmi_power.specs.PowerProtocol.{state_effect}
@@ -22,7 +27,7 @@ use Rattle.scmi_clock.specs.ClockProtocol.{clock_effect, clock_protocol, later_e
 use Rattle.scmi_clock.specs.ClockTable.{enabled_now, rate_later, rate_now}
 use Rattle.scmi_clock.proofs.ClockLaws as clock_same
 use Rattle.scmi_clock.proofs.ClockLaws.{clock_laws}
-use Rattle.scmi_core.specs.Commands.{permission_in, Later, Views, later_effect_of, now_of, rate_later_as, reply_by, request_of, reset_of, setting_effect, state_later}
+use Rattle.scmi_core.specs.Commands.{grants_nothing, permission_in, Later, Views, later_effect_of, now_of, rate_later_as, reply_by, request_of, reset_of, setting_effect, state_later}
 use Rattle.scmi_core.specs.Laws.{IsTrusted}
 use Rattle.scmi_core.specs.Pending.{has_set_of}
 use Rattle.scmi_core.specs.Reply.{commands}
@@ -186,6 +191,66 @@ module _ (board : Board) (a : ℕ) where
   unreset on (Base c) e is = absurd (cc)
   unreset on (Power c) e is = (refl, λ x d scope. refl)
   unreset on (Clock c) e is = (refl, λ x d scope. refl)
+
+  -- what grants nothing resets no agent and says nothing of what agents may do
+  pub ungranted : (c : codec.Command) → grants_nothing c ≡ true → (reset_of c ≡ None) × ((x d : ℕ) (scope : Scope) → permission_in board x d scope c ≡ None)
+  ungranted (Base base.Version) is = (refl, λ x d scope. refl)
+  ungranted (Base base.Attributes) is = (refl, λ x d scope. refl)
+  ungranted (Base (base.MessageAttributes message)) is = (refl, λ x d scope. refl)
+  ungranted (Base base.Vendor) is = (refl, λ x d scope. refl)
+  ungranted (Base base.SubVendor) is = (refl, λ x d scope. refl)
+  ungranted (Base base.Implementation) is = (refl, λ x d scope. refl)
+  ungranted (Base (base.Protocols skip)) is = (refl, λ x d scope. refl)
+  ungranted (Base (base.Agent agent)) is = (refl, λ x d scope. refl)
+  ungranted (Base (base.Permit agent device flags)) is = absurd (cc)
+  ungranted (Base (base.PermitProtocol agent device protocol flags)) is = absurd (cc)
+  ungranted (Base (base.ResetAgent agent flags)) is = absurd (cc)
+  ungranted (Power c) is = (refl, λ x d scope. refl)
+  ungranted (Clock c) is = (refl, λ x d scope. refl)
+
+  same_scope : (s : Scope) → is_scope s s ≡ true
+  same_scope scope.Device = refl
+  same_scope scope.Power = refl
+  same_scope scope.Clock = refl
+
+  -- and what does neither grants nothing
+  pub granting : (c : codec.Command) → reset_of c ≡ None → ((x d : ℕ) (scope : Scope) → permission_in board x d scope c ≡ None) → grants_nothing c ≡ true
+  granting (Base base.Version) unreset unsaid = refl
+  granting (Base base.Attributes) unreset unsaid = refl
+  granting (Base (base.MessageAttributes message)) unreset unsaid = refl
+  granting (Base base.Vendor) unreset unsaid = refl
+  granting (Base base.SubVendor) unreset unsaid = refl
+  granting (Base base.Implementation) unreset unsaid = refl
+  granting (Base (base.Protocols skip)) unreset unsaid = refl
+  granting (Base (base.Agent agent)) unreset unsaid = refl
+  granting (Base (base.Permit agent device flags)) unreset unsaid =
+      let says = unsaid agent device scope.Device in
+      absurd (cc (says, eq-eqb agent agent refl, eq-eqb device device refl))
+  granting (Base (base.PermitProtocol agent device protocol flags)) unreset unsaid =
+      let named = protocol_named protocol in
+      let says = unsaid agent device named in
+      absurd (cc (says, eq-eqb agent agent refl, eq-eqb device device refl, same_scope named))
+  granting (Base (base.ResetAgent agent flags)) unreset unsaid = absurd (cc)
+  granting (Power c) unreset unsaid = refl
+  granting (Clock c) unreset unsaid = refl
+
+  -- only the trusted agent resets agents
+  pub unreset-by : (s : Situation) (c : codec.Command) → begins_with_success (reply_by board a (views board a s) c) ≡ true → a ≢ board.trusted → reset_of c ≡ None
+  unfolding base_reply
+  unreset-by s (Base base.Version) ok other = refl
+  unreset-by s (Base base.Attributes) ok other = refl
+  unreset-by s (Base (base.MessageAttributes message)) ok other = refl
+  unreset-by s (Base base.Vendor) ok other = refl
+  unreset-by s (Base base.SubVendor) ok other = refl
+  unreset-by s (Base base.Implementation) ok other = refl
+  unreset-by s (Base (base.Protocols skip)) ok other = refl
+  unreset-by s (Base (base.Agent agent)) ok other = refl
+  unreset-by s (Base (base.Permit agent device flags)) ok other = refl
+  unreset-by s (Base (base.PermitProtocol agent device protocol flags)) ok other = refl
+  unreset-by s (Base (base.ResetAgent agent flags)) ok other =
+      absurd (other (eqb-true a board.trusted (base_laws.reset-trusted (no_agent board agent) (other_bits flags) (a == board.trusted) ok)))
+  unreset-by s (Power c) ok other = refl
+  unreset-by s (Clock c) ok other = refl
 
   pub command_laws : IsProtocol (commands board a)
   command_laws = record {

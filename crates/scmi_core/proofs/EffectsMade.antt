@@ -1,37 +1,25 @@
 -- The effects of one more event, and what hardware is asked for at it.
-use Rattle.std.proofs.Common.{◌≡◌, ◌==◌, ℕ, Bool, true, false, List, [], ◌∷◌, ◌++◌, map, option_map, Option, Some, None, Ok, refl, sym, ap, subst, ◌∙◌}
+use Rattle.std.proofs.Common.{◌≡◌, List, [], ◌∷◌, ◌++◌, map, option_map, Option, Some, None, refl, sym, ap, subst, ◌∙◌}
 use Rattle.std.specs.Option.{option_to_list}
 use Rattle.std.specs.List.{All}
 use Rattle.std.proofs.lemmas.List.{append_assoc, append-nil, map-append}
 use Rattle.std.proofs.lemmas.List.Elements.{All-pop}
-use Rattle.scmi_codec.specs.Header.{HeaderFields}
 use Rattle.scmi_codec.specs.declared.frame.Frame.TheVariants.{Good, Malformed}
 use Rattle.scmi_core.specs.declared.event.Event.TheVariants.{Advance, AdvanceFailed, Command, CommandFailed, Promoted, Reported, Restarted, Sent, Settled}
-use Rattle.scmi_codec.specs.Payload.{if_success}
-use Rattle.scmi_codec.specs.declared.command.Command.TheVariants.{Power, Clock}
-use Rattle.scmi_codec.specs.declared.power_command.PowerCommand.{PowerCommand}
-use Rattle.scmi_codec.specs.declared.clock_command.ClockCommand.{ClockCommand}
 use Rattle.scmi_plan.specs.Board.{Board}
-use Rattle.scmi_power.specs.PowerTable.{set_now}
-use Rattle.scmi_clock.specs.ClockTable.{rate_now, enabled_now}
 use Rattle.scmi_plan.specs.declared.effect.Effect.{Effect}
 use Rattle.scmi_core.specs.declared.event.Event.{Event}
 use Rattle.scmi_codec.specs.declared.fault.Fault.{Fault}
-use Rattle.scmi_plan.specs.declared.effect.Effect.TheVariants as effect
-use Rattle.scmi_core.specs.Deed.{fold_with_prefix, success_of}
+use Rattle.scmi_core.specs.Deed.{fold_with_prefix}
 use Rattle.scmi_core.specs.Asked.{Asked, Made, Refused, and_asked, made_of}
 use Rattle.scmi_core.specs.Driven.{HappensOn, HappensThere, HasMade, IsDriven, ask_after, asks, asks_from}
 use Rattle.scmi_core.specs.Standing.{Standing}
-use Rattle.scmi_clock.specs.ClockProtocol.{clock_effect}
-use Rattle.scmi_power.specs.PowerProtocol.{state_effect}
 use Rattle.scmi_core.specs.Effect.{commanded_effects, effect_after, effect_of, effects}
 use Rattle.scmi_core.specs.History.{deeds, deed_after}
-use Rattle.scmi_core.specs.Value.{Change, bit_value, change_by, change_of, changes, commanded_by, commanded_changes}
+use Rattle.scmi_core.specs.Value.{Change, change_by, changes, commanded_by, commanded_changes}
 use Rattle.scmi_core.specs.Plain.{IsNoReport}
 use Rattle.scmi_core.proofs.Deeds.{changes-push, commanded_changes-push}
 use Rattle.scmi_core.proofs.Legal.{Grown, deeds-push, empty, grow, grown}
-use Rattle.scmi_core.proofs.Steps.{change-power, state_change}
-use Rattle.scmi_core.proofs.ClockSteps.{change-clock, either}
 
 map_one : (o : Option Change) → map effect_of (option_to_list o) ≡ option_to_list (option_map effect_of o)
 map_one None = refl
@@ -185,24 +173,3 @@ unreported_of board (grow {xs} g e) all =
 -- and without a report that is all
 pub unreported : (board : Board) (h : List Event) → All IsNoReport h → commanded_effects board h ≡ effects board h
 unreported board h all = unreported_of board (grown h) all
-
--- what a command of each protocol changes
-pub power-effect : (board : Board) (a : ℕ) (header : HeaderFields) (c : PowerCommand) (reply : List ℕ)
-    → option_map state_effect (if_success reply (set_now c)) ≡ option_map effect_of (change_of board (success_of a header (Ok (Power c)) reply) None)
-power-effect board a header c reply = mapped (if_success reply (set_now c)) ∙ ap (option_map effect_of) (sym (change-power board a header c reply)) where
-  mapped : (o : Option (ℕ × ℕ)) → option_map state_effect o ≡ option_map effect_of (option_map (state_change a) o)
-  mapped None = refl
-  mapped (Some set) = refl
-
-bit_back : (b : Bool) → b ≡ (bit_value b == 1)
-bit_back true = refl
-bit_back false = refl
-
-pub clock-effect : (board : Board) (a : ℕ) (header : HeaderFields) (c : ClockCommand) (reply : List ℕ)
-    → clock_effect (if_success reply (rate_now board c)) (if_success reply (enabled_now c)) ≡ option_map effect_of (change_of board (success_of a header (Ok (Clock c)) reply) None)
-clock-effect board a header c reply =
-    mapped (if_success reply (rate_now board c)) (if_success reply (enabled_now c)) ∙ ap (option_map effect_of) (sym (change-clock board a header c reply)) where
-      mapped : (rate : Option (ℕ × ℕ)) (enabled : Option (ℕ × Bool)) → clock_effect rate enabled ≡ option_map effect_of (either a rate enabled)
-      mapped None None = refl
-      mapped None (Some set) = ap (λ b. Some (effect.Enabled set.0 b)) (bit_back set.1)
-      mapped (Some set) enabled = refl

@@ -6,11 +6,11 @@ use Rattle.std.proofs.lemmas.List.Elements.{All-append, All-nil, All-cons}
 use Rattle.scmi_codec.specs.Header.{HeaderFields}
 use Rattle.scmi_codec.specs.Payload.{begins_with_success}
 use Rattle.scmi_codec.specs.declared.message.Message.{Message}
+use Rattle.scmi_codec.specs.declared.command.Command as codec
 use Rattle.scmi_codec.specs.declared.command.Command.TheVariants.{Power}
 use Rattle.scmi_codec.specs.declared.power_command.PowerCommand.{PowerCommand}
 use Rattle.scmi_plan.specs.Board.{Board}
 use Rattle.scmi_base.specs.Permission.{is_allowed}
-use Rattle.scmi_plan.specs.declared.scope.Scope.{Scope}
 use Rattle.scmi_power.specs.PowerTable.{PowerTables, state_at, is_subscribed, set_to, set_now, set_later, notification}
 use Rattle.scmi_codec.specs.Payload.{if_success}
 use Rattle.scmi_clock.specs.ClockTable.{rate_at, enabled_at}
@@ -18,9 +18,9 @@ use Rattle.scmi_power.specs.PowerProtocol.{state_effect}
 use Rattle.scmi_power.proofs.PowerLaws.{power_laws}
 use Rattle.scmi_core.specs.declared.pending_set.PendingSet.{PendingSet}
 use Rattle.scmi_core.specs.declared.tables.Tables.{Tables}
-use Rattle.std.specs.Option.{option_or, option_and_then, option_to_list}
+use Rattle.std.specs.Option.{option_and_then, option_to_list}
 use Rattle.scmi_core.specs.Commands.{state_later}
-use Rattle.scmi_core.specs.Deed.{success_with, success_of}
+use Rattle.scmi_core.specs.Deed.{Success, success_with, success_of}
 use Rattle.scmi_core.specs.Commands.{permission_in}
 use Rattle.scmi_core.specs.Subscriptions.{subscription}
 use Rattle.scmi_core.specs.Pending.{acceptance, set_of, state_set, sets_by}
@@ -60,6 +60,32 @@ all_none P = All-nil P
 pub all_one : (P : PendingSet → Type 0) (p : PendingSet) → P p → All P (p ∷ [])
 all_one P p h = All-cons P p [] h (All-nil P)
 
+-- a command succeeds if its reply says so
+pub success-then : {Y : Type 0} (f : Success → Option Y) (a : ℕ) (header : HeaderFields) (c : codec.Command) (reply : List ℕ)
+    → option_and_then f (success_of a header (Ok c) reply) ≡ if_success reply (f (record { caller = a; header = header; command = c }))
+success-then f a header c reply = by (begins_with_success reply) where
+  by : (b : Bool) → option_and_then f (if b then success_with a header (Ok c) else None) ≡ (if b then f (record { caller = a; header = header; command = c }) else None)
+  by true = refl
+  by false = refl
+
+pub success-mapped : {X Y : Type 0} (f : X → Y) (reply : List ℕ) (o : Option X) → if_success reply (option_map f o) ≡ option_map f (if_success reply o)
+success-mapped f reply o = by (begins_with_success reply) where
+  by : (b : Bool) → (if b then option_map f o else None) ≡ option_map f (if b then o else None)
+  by true = refl
+  by false = refl
+
+nothing_asked : (reply : List ℕ) (o : Option Bool) (old : Bool) → o ≡ None → unwrap_or (if_success reply o) old ≡ old
+nothing_asked reply o old e = rw e (by (begins_with_success reply)) where
+  by : (b : Bool) → unwrap_or (if b then None else None) old ≡ old
+  by true = refl
+  by false = refl
+
+-- a success that says nothing leaves what was said before
+pub says_nothing : (a : ℕ) (header : HeaderFields) (c : codec.Command) (reply : List ℕ) (f : Success → Option Bool) (old : Bool)
+    → f (record { caller = a; header = header; command = c }) ≡ None → unwrap_or (option_and_then f (success_of a header (Ok c) reply)) old ≡ old
+says_nothing a header c reply f old none =
+    ap (λ o. unwrap_or o old) (success-then f a header c reply) ∙ nothing_asked reply (f (record { caller = a; header = header; command = c })) old none
+
 -- POWER
 
 power-given : (a : ℕ) (now : Option (ℕ × ℕ)) → option_map (given a) (option_map state_effect now) ≡ option_map (state_change a) now
@@ -70,33 +96,15 @@ power-accepted : (a : ℕ) (header : HeaderFields) (later : Option (ℕ × ℕ))
 power-accepted a header None = refl
 power-accepted a header (Some set) = refl
 
-pub change-power : (board : Board) (a : ℕ) (header : HeaderFields) (c : PowerCommand) (reply : List ℕ)
+change-power : (board : Board) (a : ℕ) (header : HeaderFields) (c : PowerCommand) (reply : List ℕ)
     → change_of board (success_of a header (Ok (Power c)) reply) None ≡ option_map (state_change a) (if_success reply (set_now c))
-change-power board a header c reply = by (begins_with_success reply) where
-  by : (b : Bool) → option_or None (option_and_then (change_now board) (if b then success_with a header (Ok (Power c)) else None)) ≡ option_map (state_change a) (if b then set_now c else None)
-  by true = power-given a (set_now c)
-  by false = refl
+change-power board a header c reply =
+    success-then (change_now board) a header (Power c) reply ∙ ap (if_success reply) (power-given a (set_now c)) ∙ success-mapped (state_change a) reply (set_now c)
 
 pending_sets-power : (board : Board) (a : ℕ) (header : HeaderFields) (c : PowerCommand) (reply : List ℕ)
     → option_and_then (acceptance board) (success_of a header (Ok (Power c)) reply) ≡ option_map (state_set a header) (if_success reply (set_later c))
-pending_sets-power board a header c reply = by (begins_with_success reply) where
-  by : (b : Bool) → option_and_then (acceptance board) (if b then success_with a header (Ok (Power c)) else None) ≡ option_map (state_set a header) (if b then set_later c else None)
-  by true = power-accepted a header (set_later c)
-  by false = refl
-
-subscription-power : (a : ℕ) (header : HeaderFields) (c : PowerCommand) (reply : List ℕ) (x d : ℕ) (old : Bool)
-    → unwrap_or (option_and_then (subscription x d) (success_of a header (Ok (Power c)) reply)) old ≡ unwrap_or (if_success reply (notification x d a c)) old
-subscription-power a header c reply x d old = by (begins_with_success reply) where
-  by : (b : Bool) → unwrap_or (option_and_then (subscription x d) (if b then success_with a header (Ok (Power c)) else None)) old ≡ unwrap_or (if b then notification x d a c else None) old
-  by true = refl
-  by false = refl
-
-permission-power : (board : Board) (a : ℕ) (header : HeaderFields) (c : PowerCommand) (reply : List ℕ) (x d : ℕ) (scope : Scope) (old : Bool)
-    → unwrap_or (option_and_then (λ s. permission_in board x d scope s.command) (success_of a header (Ok (Power c)) reply)) old ≡ old
-permission-power board a header c reply x d scope old = by (begins_with_success reply) where
-  by : (b : Bool) → unwrap_or (option_and_then (λ s. permission_in board x d scope s.command) (if b then success_with a header (Ok (Power c)) else None)) old ≡ old
-  by true = refl
-  by false = refl
+pending_sets-power board a header c reply =
+    success-then (acceptance board) a header (Power c) reply ∙ ap (if_success reply) (power-accepted a header (set_later c)) ∙ success-mapped (state_set a header) reply (set_later c)
 
 state-value : (a d old : ℕ) (changed : Option (ℕ × ℕ)) → set_to changed d old ≡ unwrap_or (option_and_then (value_in (State d)) (option_map (state_change a) changed)) old
 state-value a d old None = refl
@@ -129,12 +137,6 @@ of_success reply o x e = by (begins_with_success reply) e where
   by : {A : Type 0} {o : Option A} {x : A} (b : Bool) → Some x ≡ (if b then o else None) → o ≡ Some x
   by true e = sym e
   by false e = absurd (cc)
-
-nothing_asked : (reply : List ℕ) (o : Option Bool) (old : Bool) → o ≡ None → unwrap_or (if_success reply o) old ≡ old
-nothing_asked reply o old e = rw e (by (begins_with_success reply)) where
-  by : (b : Bool) → unwrap_or (if b then None else None) old ≡ old
-  by true = refl
-  by false = refl
 
 -- what is announced after a response
 announced-after : (t m : Tables) (left : List PendingSet) (responses : List Message) (x a d s : ℕ) (differs : Bool)
@@ -173,8 +175,8 @@ power-stepped board t n new power' a header c reply changed later differs few fe
     let change : change_of board (success_of a header (Ok (Power c)) reply) None ≡ option_map (state_change a) changed = change-power board a header c reply ∙ ap (option_map (state_change a)) (sym is_changed) in
     let pend : new.pending ≡ t.pending ++ option_to_list (option_map (state_set a header) later) = kept2.pending ∙ pend1 in
     record {
-      permissions = λ x d scope lo' small. ap (λ b. is_allowed b x d scope) (kept2.base ∙ kept1.base) ∙ sym (permission-power board a header c reply x d scope (is_allowed t.base x d scope));
-      subscriptions = λ x d lo' hi' small. ap (λ p. is_subscribed p x d) (kept2.power ∙ kept1.power) ∙ subs x d lo' hi' small ∙ sym (subscription-power a header c reply x d (is_subscribed t.power x d));
+      permissions = λ x d scope lo' small. ap (λ b. is_allowed b x d scope) (kept2.base ∙ kept1.base) ∙ sym (says_nothing a header (Power c) reply (λ s. permission_in board x d scope s.command) (is_allowed t.base x d scope) refl);
+      subscriptions = λ x d lo' hi' small. ap (λ p. is_subscribed p x d) (kept2.power ∙ kept1.power) ∙ subs x d lo' hi' small ∙ sym (ap (λ o. unwrap_or o (is_subscribed t.power x d)) (success-then (subscription x d) a header (Power c) reply));
       values = λ x within. values x within ∙ ap (λ o. unwrap_or (option_and_then (value_in x) o) (value_at t x)) (sym change);
       known = subst (λ o. IfSome o (λ ch. IsThing board ch.thing)) (sym change) (changed-known board a changed known);
       pending = pend ∙ ap (λ o. t.pending ++ option_to_list o) (ap (option_map (state_set a header)) is_later ∙ sym (pending_sets-power board a header c reply));

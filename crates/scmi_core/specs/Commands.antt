@@ -1,7 +1,8 @@
 -- What a command does, whichever protocol it is of: the one file of definitions with an arm for each protocol.
-use Rattle.std.specs.Prelude.{ℕ, Bool, true, List, Option, None, option_map}
+use Rattle.std.specs.Prelude.{ℕ, Bool, true, false, List, Option, None, option_map}
 use Rattle.scmi_codec.specs.declared.command.Command.TheVariants.{Base, Power, Clock}
 use Rattle.scmi_codec.specs.declared.command.Command as codec
+use Rattle.scmi_codec.specs.declared.base_command.BaseCommand.TheVariants as base
 use Rattle.scmi_plan.specs.Board.{Board}
 use Rattle.scmi_plan.specs.declared.effect.Effect.{Effect}
 use Rattle.scmi_plan.specs.declared.effect.Effect.TheVariants as effect
@@ -83,3 +84,10 @@ abbrev pub changes_nothing : codec.Command → Bool
 changes_nothing (Base c) = true
 changes_nothing (Power c) = power_protocol.only_reads c
 changes_nothing (Clock c) = clock_protocol.only_reads c
+
+-- whether it sets no permission and resets no agent
+abbrev pub grants_nothing : codec.Command → Bool
+grants_nothing (Base (base.Permit agent device flags)) = false
+grants_nothing (Base (base.PermitProtocol agent device protocol flags)) = false
+grants_nothing (Base (base.ResetAgent agent flags)) = false
+grants_nothing _ = true

@@ -1,16 +1,13 @@
 //! What a command or a completion is to change of the hardware.
-ghost use Rattle.std.specs.Prelude.{◌≡◌, ◌==◌, ℕ, List, length, false, None, Ok, option_map};
+ghost use Rattle.std.specs.Prelude.{◌≡◌, ◌==◌, ℕ, List, length, false, None, Ok};
 ghost use Rattle.scmi_codec.specs.Payload.{if_success};
 ghost use Rattle.scmi_codec.specs.declared.command.Command.TheVariants.{Power, Clock};
 ghost use Rattle.scmi_codec.specs.declared.frame.Frame.TheVariants.{Good};
 ghost use Rattle.scmi_plan.specs.Agent.{IsAgent};
 ghost use Rattle.scmi_plan.specs.Board.{Board};
 ghost use Rattle.scmi_plan.specs.Plan.{IsValid};
-ghost use Rattle.scmi_power.specs.PowerTable.{set_now};
-ghost use Rattle.scmi_clock.specs.ClockTable.{rate_now, enabled_now};
-ghost use Rattle.scmi_clock.specs.ClockProtocol.{clock_effect};
+ghost use Rattle.scmi_core.specs.Commands.{now_of};
 ghost use Rattle.scmi_core.specs.Effect.{effect_after, effect_in, effect_read, is_set_header, is_set_frame};
-ghost use Rattle.scmi_power.specs.PowerProtocol.{state_effect};
 ghost use Rattle.scmi_core.specs.Reply.{reply_words};
 ghost use Rattle.scmi_core.specs.Tables.{situation_in};
 ghost use Rattle.scmi_core.specs.declared.event.Event.{Event};
@@ -74,10 +71,9 @@ impl Tables {
     fn power_effect(&self, plan: &Plan, agent: u32, command: PowerCommand) -> Option<Effect>
         requires agent { IsAgent (length plan.now.agents) agent }
         requires valid { IsValid plan.now }
-        ensures { result ≡ option_map state_effect
-            (if_success
+        ensures { result ≡ if_success
             (reply_words plan.now agent (situation_in agent self.now) (Ok (Power command)))
-            (set_now command)) }
+            (now_of plan.now (Power command)) }
     {
         let load = self.power_load(plan, agent, command);
         match self.power.change_of(plan, &self.base, agent, command, load) {
@@ -90,13 +86,9 @@ impl Tables {
     fn clock_effect(&self, plan: &Plan, agent: u32, command: ClockCommand) -> Option<Effect>
         requires agent { IsAgent (length plan.now.agents) agent }
         requires valid { IsValid plan.now }
-        ensures { result ≡ clock_effect
-            (if_success
+        ensures { result ≡ if_success
             (reply_words plan.now agent (situation_in agent self.now) (Ok (Clock command)))
-            (rate_now plan.now command))
-            (if_success
-            (reply_words plan.now agent (situation_in agent self.now) (Ok (Clock command)))
-            (enabled_now command)) }
+            (now_of plan.now (Clock command)) }
     {
         let load = self.clock_load(plan, agent, command);
         match self

@@ -7,23 +7,12 @@ use Rattle.std.proofs.lemmas.List.Elements.{All-pop}
 use Rattle.std.proofs.lemmas.Bool.{eq-eqb, eqb-true}
 use Rattle.scmi_codec.specs.Header.{HeaderFields}
 use Rattle.scmi_codec.specs.Payload.{begins_with_success}
-use Rattle.scmi_codec.specs.Reply.{other_bits}
 use Rattle.scmi_codec.specs.declared.status.Status.{Status}
-use Rattle.scmi_codec.specs.declared.base_command.BaseCommand.{BaseCommand}
-use Rattle.scmi_codec.specs.declared.base_command.BaseCommand.TheVariants as base
-use Rattle.scmi_codec.specs.declared.power_command.PowerCommand.{PowerCommand}
 use Rattle.scmi_codec.specs.declared.command.Command as codec
-use Rattle.scmi_codec.specs.declared.command.Command.TheVariants.{Base, Power, Clock}
 use Rattle.scmi_codec.specs.declared.frame.Frame.{Frame}
 use Rattle.scmi_codec.specs.declared.frame.Frame.TheVariants.{Good, Malformed}
 use Rattle.scmi_plan.specs.Board.{Board}
-use Rattle.scmi_base.specs.BaseReply.{base_reply, no_agent}
-use Rattle.scmi_base.proofs.BaseLaws.{reset-trusted}
 use Rattle.scmi_plan.specs.declared.scope.Scope.{Scope}
-use Rattle.scmi_power.specs.PowerReply.{PowerView, power_reply}
-use Rattle.scmi_power.specs.PowerTable.{notification, set_later}
-use Rattle.scmi_power.proofs.PowerLaws.{power_laws}
-use Rattle.scmi_clock.specs.ClockTable.{rate_later}
 use Rattle.scmi_core.specs.declared.event.Event.{Event}
 use Rattle.scmi_core.specs.declared.event.Event.TheVariants.{Command}
 use Rattle.scmi_core.specs.declared.pending_set.PendingSet.{PendingSet}
@@ -32,16 +21,17 @@ use Rattle.scmi_core.specs.History.{deed_after, deeds}
 use Rattle.scmi_core.specs.Laws.{IsTrusted, change_asked, may_after}
 use Rattle.scmi_core.specs.Legal.{IsLegal}
 use Rattle.scmi_core.specs.Outbox.{made_in, notice_in, state_changed}
-use Rattle.scmi_core.specs.Pending.{acceptance, rate_set, sets_by, state_set}
-use Rattle.scmi_core.specs.Commands.{permission_in}
+use Rattle.scmi_core.specs.Pending.{acceptance, set_of, sets_by}
+use Rattle.scmi_core.specs.Commands.{later_of, permission_in, request_of, reset_of}
 use Rattle.scmi_core.specs.declared.outboxes.TheConstants.{OUTBOX_ROOM}
 use Rattle.scmi_codec.specs.declared.message.Message.{Message}
 use Rattle.scmi_core.specs.ReadCommand.{command_on}
 use Rattle.scmi_core.specs.Reply.{fits_channel, reply_words}
-use Rattle.scmi_core.specs.Situation.{Situation, power_view}
-use Rattle.scmi_core.specs.Subscriptions.{subscription}
+use Rattle.scmi_core.specs.Situation.{Situation}
+use Rattle.scmi_core.specs.Subscriptions.{subscription, subscription_after_reset}
 use Rattle.scmi_core.specs.Value.{Change, Enabled, Rate, State, Thing, change_now, completion, value_in}
 use Rattle.scmi_core.proofs.Causes.{asked-own}
+use Rattle.scmi_core.proofs.CommandLaws.{command_laws, unreset-by}
 use Rattle.scmi_core.proofs.Deeds.{added_success, successes-push}
 use Rattle.scmi_core.proofs.Following.{next}
 use Rattle.scmi_core.proofs.Legal.{deeds-push}
@@ -75,10 +65,10 @@ is_none : {T : Type 0} (o : Option T) → (o ≢ None → ⊥) → o ≡ None
 is_none None some = refl
 is_none (Some x) some = absurd (some (λ none. absurd (cc)))
 
-set-agent : {X : Type 0} (a : ℕ) (set_of : X → PendingSet) → ((x : X) → (set_of x).agent ≡ a)
-    → (o : Option X) (p : PendingSet) → option_map set_of o ≡ Some p → p.agent ≡ a
-set-agent a set_of own None p is = absurd (cc)
-set-agent a set_of own (Some x) p is = sym (ap (λ o. (unwrap_or o p).agent) is) ∙ own x
+set-agent : {X : Type 0} (a : ℕ) (set_by : X → PendingSet) → ((x : X) → (set_by x).agent ≡ a)
+    → (o : Option X) (p : PendingSet) → option_map set_by o ≡ Some p → p.agent ≡ a
+set-agent a set_by own None p is = absurd (cc)
+set-agent a set_by own (Some x) p is = sym (ap (λ o. (unwrap_or o p).agent) is) ∙ own x
 
 module _ (board : Board) (h : List Event) (a : ℕ) (header : HeaderFields) where
   abbrev success : codec.Command → Success
@@ -90,47 +80,26 @@ module _ (board : Board) (h : List Event) (a : ℕ) (header : HeaderFields) wher
 
   accepted-own : (c : codec.Command) (p : PendingSet) → acceptance board (success c) ≡ Some p
       → p.agent ≡ a
-  accepted-own (Base c) p is = absurd (cc)
-  accepted-own (Power c) p is = set-agent a (state_set a header) (λ set. refl) (set_later c) p is
-  accepted-own (Clock c) p is =
-      set-agent a (rate_set a header) (λ set. refl) (rate_later board c) p is
+  accepted-own c p is = set-agent a (set_of a header) (λ later. refl) (later_of board c) p is
 
-  base-silent : (b d : ℕ) → a ≢ board.trusted → (c : BaseCommand)
-      → begins_with_success (base_reply board a c) ≡ true
-      → subscription b d (success (Base c)) ≡ None
-  unfolding base_reply
-  base-silent b d other base.Version ok = refl
-  base-silent b d other base.Attributes ok = refl
-  base-silent b d other (base.MessageAttributes message) ok = refl
-  base-silent b d other base.Vendor ok = refl
-  base-silent b d other base.SubVendor ok = refl
-  base-silent b d other base.Implementation ok = refl
-  base-silent b d other (base.Protocols skip) ok = refl
-  base-silent b d other (base.Agent agent) ok = refl
-  base-silent b d other (base.Permit agent device flags) ok = refl
-  base-silent b d other (base.PermitProtocol agent device protocol flags) ok = refl
-  base-silent b d other (base.ResetAgent agent flags) ok =
-      let is = reset-trusted (no_agent board agent) (other_bits flags) (a == board.trusted) ok in
-      absurd (other (eqb-true a board.trusted is))
-
-  power-silent : (b d : ℕ) → a ≢ b → (c : PowerCommand)
-      → begins_with_success (power_reply board (power_view board a (situation_of board a h)) c) ≡ true
-      → subscription b d (success (Power c)) ≡ None
-  power-silent b d differ c ok = by (notification b d a c) refl where
-    v : PowerView
-    v = power_view board a (situation_of board a h)
-
-    by : (o : Option Bool) → notification b d a c ≡ o → o ≡ None
+  -- a request for notifications is the caller's own
+  request-silent : (b d : ℕ) → a ≢ b → (c : codec.Command) → succeeds (Ok c) ≡ true
+      → request_of b d a c ≡ None
+  unfolding reply_words
+  request-silent b d differ c ok = by (request_of b d a c) refl where
+    by : (o : Option Bool) → request_of b d a c ≡ o → o ≡ None
     by None is = refl
     by (Some on) is =
-        absurd (differ (eqb-true a b (power_laws.told board v c b d a on ok is).0))
+        let told = (command_laws board a).told board (situation_of board a h) c b d a on ok is in
+        absurd (differ (eqb-true a b told.0))
 
   subscription-silent : (b d : ℕ) → a ≢ board.trusted → a ≢ b → (c : codec.Command)
       → succeeds (Ok c) ≡ true → subscription b d (success c) ≡ None
   unfolding reply_words
-  subscription-silent b d other differ (Base c) ok = base-silent b d other c ok
-  subscription-silent b d other differ (Power c) ok = power-silent b d differ c ok
-  subscription-silent b d other differ (Clock c) ok = refl
+  subscription-silent b d other differ c ok =
+      ap (λ r. option_or (subscription_after_reset b r) (request_of b d a c))
+      (unreset-by board a (situation_of board a h) c ok other)
+      ∙ request-silent b d differ c ok
 
   change-own : (c : codec.Command) (change : Change) → succeeds (Ok c) ≡ true
       → change_now board (success c) ≡ Some change

@@ -3,21 +3,19 @@ use Rattle.std.proofs.Common.{◌≡◌, ℕ, ◌==◌, List, refl, ap, if◌the
 use Rattle.std.specs.Prelude.{Result, Ok, Err}
 use Rattle.scmi_codec.specs.declared.status.Status.{Status}
 use Rattle.scmi_codec.specs.declared.command.Command as codec
-use Rattle.scmi_codec.specs.declared.command.Command.TheVariants.{Base, Power, Clock}
 use Rattle.scmi_codec.specs.declared.frame.Answer.TheVariants.{Reply, ChannelError}
 use Rattle.scmi_codec.specs.declared.frame.Frame.{Frame}
 use Rattle.scmi_codec.specs.declared.frame.Frame.TheVariants.{Good, Malformed}
 use Rattle.scmi_plan.specs.Board.{Board, channel_of}
 use Rattle.scmi_plan.specs.declared.resource.Resource.TheVariants as resource
 use Rattle.scmi_base.specs.Permission.{may}
-use Rattle.scmi_power.specs.PowerReply.{power_reply}
-use Rattle.scmi_clock.specs.ClockReply.{clock_reply}
 use Rattle.scmi_core.specs.declared.event.Event.{Event}
+use Rattle.scmi_core.specs.Commands.{reply_by}
 use Rattle.scmi_core.specs.History.{answer_to}
 use Rattle.scmi_core.specs.Outbox.{message_with}
 use Rattle.scmi_core.specs.ReadCommand.{command_on}
 use Rattle.scmi_core.specs.Reply.{answer_in, fits_channel, reply_words}
-use Rattle.scmi_core.specs.Situation.{Situation, clock_view, power_view}
+use Rattle.scmi_core.specs.Situation.{Situation, clock_view, power_view, views}
 use Rattle.scmi_core.specs.Value.{Enabled, Rate, State}
 use Rattle.scmi_laws.specs.Others.{AreSeenAlike, SeesTheSame, situation_of}
 
@@ -43,12 +41,13 @@ module _ (board : Board) (b : ℕ) (s u : Situation) (alike : AreSeenAlike board
         channel = channel_of board b;
       }
 
+  views-same : views board b s ≡ views board b u
+  views-same = λ i. record { power = power-same i; clock = clock-same i }
+
   reply-same : (r : Result codec.Command Status) → reply_words board b s r ≡ reply_words board b u r
   unfolding reply_words
   reply-same (Err e) = refl
-  reply-same (Ok (Base c)) = refl
-  reply-same (Ok (Power c)) = ap (λ view. power_reply board view c) power-same
-  reply-same (Ok (Clock c)) = ap (λ view. clock_reply board view c) clock-same
+  reply-same (Ok c) = ap (λ view. reply_by board b view c) views-same
 
   answer-same : (frame : Frame) → answer_in board b frame s ≡ answer_in board b frame u
   answer-same (Good m) =

@@ -1,16 +1,12 @@
 -- Which commands only read, and a history without those of one agent.
-use Rattle.std.specs.Prelude.{◌≡◌, ℕ, ◌||◌, Bool, true, false, if◌then◌else◌, List, [], ◌∷◌, None, Result, Ok, Err}
+use Rattle.std.specs.Prelude.{◌≡◌, ℕ, ◌&&◌, ◌||◌, Bool, true, false, if◌then◌else◌, List, [], ◌∷◌, None, Result, Ok, Err}
 use Rattle.std.specs.Option.{option_map_or}
 use Rattle.scmi_codec.specs.declared.status.Status.{Status}
 use Rattle.scmi_codec.specs.declared.frame.Frame.{Frame}
 use Rattle.scmi_codec.specs.declared.frame.Frame.TheVariants.{Good, Malformed}
-use Rattle.scmi_codec.specs.declared.command.Command.TheVariants.{Base, Power, Clock}
 use Rattle.scmi_codec.specs.declared.command.Command as codec
-use Rattle.scmi_codec.specs.declared.base_command.BaseCommand.TheVariants as base
 use Rattle.scmi_plan.specs.Board.{Board}
 use Rattle.scmi_plan.specs.declared.scope.Scope.{Scope}
-use Rattle.scmi_power.specs.PowerTable as power
-use Rattle.scmi_clock.specs.ClockTable as clock
 use Rattle.scmi_core.specs.ReadCommand.{command_on}
 use Rattle.scmi_core.specs.declared.event.Event.{Event}
 use Rattle.scmi_core.specs.Agents.{frame_from}
@@ -18,19 +14,14 @@ use Rattle.scmi_core.specs.Deed.{Success, flat_map_with_prefix}
 use Rattle.scmi_core.specs.Laws.{AreAlikeBut, is_refused}
 use Rattle.scmi_core.specs.Legal.{IsLegal}
 use Rattle.scmi_core.specs.Pending.{acceptance}
-use Rattle.scmi_core.specs.Commands.{permission_in}
+use Rattle.scmi_core.specs.Commands.{changes_nothing, grants_nothing, permission_in}
 use Rattle.scmi_core.specs.Subscriptions.{subscription}
 use Rattle.scmi_core.specs.Value.{change_now}
 
 -- whether a command only reads: it sets no permission, state, rate or configuration, resets no
 -- agent, and asks for no notifications
 abbrev pub is_read : codec.Command → Bool
-is_read (Base (base.Permit agent device flags)) = false
-is_read (Base (base.PermitProtocol agent device protocol flags)) = false
-is_read (Base (base.ResetAgent agent flags)) = false
-is_read (Base c) = true
-is_read (Power c) = power.only_reads c
-is_read (Clock c) = clock.only_reads c
+is_read c = changes_nothing c && grants_nothing c
 
 -- a success does nothing: it changes no value, leaves no set pending, and says nothing of what any
 -- agent may do or is notified of

@@ -5,6 +5,7 @@ use Rattle.scmi_clock.specs.ClockTable.{rate_now, enabled_now}
 use Rattle.scmi_clock.specs.ClockProtocol.{clock_effect}
 use Rattle.scmi_core.specs.Reply.{reply_words}
 use Rattle.scmi_core.specs.Tables.{situation_in}
+use Rattle.scmi_core.proofs.ClockSteps.{effect-success}
 use Rattle.scmi_core.proofs.Situations.{clock-reply}
 use Rattle.scmi_core.proofs.tables.Tables.clock_effect.Goals as goal
 
@@ -15,6 +16,7 @@ returns-in-Some c =
     let words = reply_words c.args.plan.now c.args.agent (situation_in c.args.agent c.args.self.now) (Ok (Clock c.args.command)) in
     ap (λ rate. clock_effect rate (if_success words (enabled_now c.args.command)))
     (sym c.in-Some.is ∙ c.rate_change_of.ensures ∙ ap (λ w. if_success w (rate_now c.args.plan.now c.args.command)) reply)
+    ∙ sym (effect-success words (rate_now c.args.plan.now c.args.command) (enabled_now c.args.command))
 
 pub returns-in-Some-enabled_change_of : goal.returns-in-Some-enabled_change_of
 returns-in-Some-enabled_change_of c =
@@ -24,6 +26,7 @@ returns-in-Some-enabled_change_of c =
     ap (clock_effect None) (sym c.in-Some-enabled_change_of.is ∙ c.enabled_change_of.ensures ∙ ap (λ w. if_success w (enabled_now c.args.command)) reply)
     ∙ ap (λ rate. clock_effect rate (if_success words (enabled_now c.args.command)))
     (sym c.in-None.is ∙ c.rate_change_of.ensures ∙ ap (λ w. if_success w (rate_now c.args.plan.now c.args.command)) reply)
+    ∙ sym (effect-success words (rate_now c.args.plan.now c.args.command) (enabled_now c.args.command))
 
 pub returns-in-None-enabled_change_of : goal.returns-in-None-enabled_change_of
 returns-in-None-enabled_change_of c =
@@ -33,3 +36,4 @@ returns-in-None-enabled_change_of c =
     ap (clock_effect None) (sym c.in-None-enabled_change_of.is ∙ c.enabled_change_of.ensures ∙ ap (λ w. if_success w (enabled_now c.args.command)) reply)
     ∙ ap (λ rate. clock_effect rate (if_success words (enabled_now c.args.command)))
     (sym c.in-None.is ∙ c.rate_change_of.ensures ∙ ap (λ w. if_success w (rate_now c.args.plan.now c.args.command)) reply)
+    ∙ sym (effect-success words (rate_now c.args.plan.now c.args.command) (enabled_now c.args.command))

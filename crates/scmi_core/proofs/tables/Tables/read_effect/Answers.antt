@@ -6,7 +6,7 @@ use Rattle.scmi_core.specs.ReadCommand.{command_on}
 use Rattle.scmi_core.specs.Reply.{reply_words}
 use Rattle.scmi_core.specs.Tables.{situation_in}
 use Rattle.scmi_core.specs.Value.{change_of}
-use Rattle.scmi_core.proofs.EffectsMade.{power-effect, clock-effect}
+use Rattle.scmi_core.proofs.Changes.{command-effect}
 use Rattle.scmi_core.proofs.tables.Tables.read_effect.Goals as goal
 
 pub returns-in-Ok-Power : goal.returns-in-Ok-Power
@@ -15,7 +15,7 @@ returns-in-Ok-Power c =
     let m = c.args.message.now in
     let read : command_on c.args.plan.now m ≡ Ok (Power c.in-Ok-Power.command) = sym c.in-Ok-Power.ensures ∙ ap Ok c.in-Ok-Power.field-0-is in
     c.power_effect.ensures
-    ∙ power-effect c.args.plan.now c.args.agent m.header c.in-Ok-Power.command (reply_words c.args.plan.now c.args.agent s (Ok (Power c.in-Ok-Power.command)))
+    ∙ command-effect c.args.plan.now c.args.agent m.header (Power c.in-Ok-Power.command) (reply_words c.args.plan.now c.args.agent s (Ok (Power c.in-Ok-Power.command)))
     ∙ ap (λ r. option_map effect_of (change_of c.args.plan.now (success_of c.args.agent m.header r (reply_words c.args.plan.now c.args.agent s r)) None)) (sym read)
 
 pub returns-in-Ok-Clock : goal.returns-in-Ok-Clock
@@ -24,5 +24,5 @@ returns-in-Ok-Clock c =
     let m = c.args.message.now in
     let read : command_on c.args.plan.now m ≡ Ok (Clock c.in-Ok-Clock.command) = sym c.in-Ok-Clock.ensures ∙ ap Ok c.in-Ok-Clock.field-0-is in
     c.clock_effect.ensures
-    ∙ clock-effect c.args.plan.now c.args.agent m.header c.in-Ok-Clock.command (reply_words c.args.plan.now c.args.agent s (Ok (Clock c.in-Ok-Clock.command)))
+    ∙ command-effect c.args.plan.now c.args.agent m.header (Clock c.in-Ok-Clock.command) (reply_words c.args.plan.now c.args.agent s (Ok (Clock c.in-Ok-Clock.command)))
     ∙ ap (λ r. option_map effect_of (change_of c.args.plan.now (success_of c.args.agent m.header r (reply_words c.args.plan.now c.args.agent s r)) None)) (sym read)
