@@ -14,7 +14,7 @@ use Rattle.scmi_core.specs.Reply.{fits_channel, reply_words}
 use Rattle.scmi_core.specs.Value.{change_of}
 use Rattle.scmi_core.specs.declared.event.Event.{Event}
 use Rattle.scmi_core.specs.declared.event.Event.TheVariants.{Command as Called}
-use Rattle.scmi_core.proofs.Commits.{rate-set}
+use Rattle.scmi_core.proofs.Commits.{makes}
 use Rattle.scmi_c.specs.Effect.{IsRate, numbers_of}
 use Rattle.scmi_c.specs.declared.effect.EffectNumbers.{EffectNumbers}
 
@@ -25,7 +25,7 @@ clock-known board a h (Good m) clock rate is = by (fits_channel board a m) is wh
   by : (b : Bool)
       → option_map effect_of (change_of board (success_of a m.header (command_on board m) (if b then reply_words board a (situation_after board a (deeds board h)) (command_on board m) else [])) None) ≡ Some (Rate clock rate)
       → clock < length board.clocks
-  by true is = (rate-set board a m.header (situation_after board a (deeds board h)) (command_on board m) clock rate is).known
+  by true is = (makes board a m.header (situation_after board a (deeds board h)) (command_on board m) (Rate clock rate) is).known
   by false is = absurd (let no : None ≡ Some (Rate clock rate) = is in cc)
 clock-known board a h (Malformed len header) clock rate is = absurd (let no : None ≡ Some (Rate clock rate) = is in cc)
 

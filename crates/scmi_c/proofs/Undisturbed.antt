@@ -28,13 +28,11 @@ use Rattle.scmi_plan.specs.declared.resource.Resource.TheVariants as resource
 use Rattle.scmi_plan.specs.declared.scope.Scope.{Scope}
 use Rattle.scmi_base.specs.Permission.{may}
 use Rattle.scmi_base.specs.Protocol.{resource_changed}
-use Rattle.scmi_power.specs.PowerProtocol.{state_effect}
-use Rattle.scmi_power.specs.PowerTable.{set_later, set_now}
-use Rattle.scmi_power.proofs.PowerLaws.{for_sets, power_laws}
-use Rattle.scmi_clock.specs.ClockProtocol.{busy_in, clock_effect, may_in}
-use Rattle.scmi_clock.specs.ClockTable.{enabled_now, rate_later, rate_now, set_rate}
+use Rattle.scmi_power.specs.PowerTable.{set_later}
+use Rattle.scmi_power.proofs.PowerLaws.{for_sets}
+use Rattle.scmi_clock.specs.ClockTable.{rate_later, set_rate}
 use Rattle.scmi_clock.specs.SetFlags.{is_asynchronous, is_response_wanted}
-use Rattle.scmi_clock.proofs.ClockLaws.{clock_laws, for_changes}
+use Rattle.scmi_clock.proofs.ClockLaws.{for_changes}
 use Rattle.scmi_core.specs.declared.event.Event.{Event}
 use Rattle.scmi_core.specs.declared.event.Event.TheVariants.{Advance, AdvanceFailed, Command as Called, CommandFailed, Promoted, Reported, Sent, Settled}
 use Rattle.scmi_core.specs.declared.pending_set.PendingSet.{PendingSet}
@@ -45,13 +43,15 @@ use Rattle.scmi_core.specs.Effect.{effect_after, effect_in, effect_of, effect_re
 use Rattle.scmi_core.specs.History.{deed_after, deeds}
 use Rattle.scmi_core.specs.Legal.{IsLegal}
 use Rattle.scmi_core.specs.Outbox.{situation_after}
-use Rattle.scmi_core.specs.Pending.{acceptance, has_set_of, is_set_by, promoted, rate_set, setting_with, settled, state_set}
-use Rattle.scmi_core.specs.Commands.{permission_in}
+use Rattle.scmi_core.specs.Pending.{acceptance, has_set_of, is_set_by, made_pending, promoted, setting_with, settled}
+use Rattle.scmi_core.specs.Commands.{later_of, now_of, permission_in, rate_later_as, state_later}
 use Rattle.scmi_core.specs.ReadCommand.{command_on, lacks_protocol}
 use Rattle.scmi_core.specs.Reply.{fits_channel, reply_words, words_given}
-use Rattle.scmi_core.specs.Situation.{Situation, clock_view, power_view}
+use Rattle.scmi_core.specs.Situation.{Situation}
 use Rattle.scmi_core.specs.Value.{change_of}
-use Rattle.scmi_core.proofs.Commits.{config-set, effect-fits, effect_by, rate-set, state-set}
+use Rattle.scmi_core.proofs.Changes.{none_later}
+use Rattle.scmi_core.proofs.CommandLaws.{command_laws, unreset}
+use Rattle.scmi_core.proofs.Commits.{effect-fits, effect_by, makes}
 use Rattle.scmi_core.proofs.Deeds.{added_success}
 use Rattle.scmi_core.proofs.Following.{next, pending_next, situation-next}
 use Rattle.scmi_core.proofs.Legal.{advances_le-accepted, deeds-push, sent_le-made}
@@ -100,24 +100,24 @@ module _ (board : Board) (a : ℕ) (m : Message) where
 
   accepts-power : (c : PowerCommand) → Says m (Power c) → IsOwn (acceptance board (success (Power c)))
   accepts-power =
-      for_sets (λ c. Says m (Power c) → IsOwn (option_map (state_set a m.header) (set_later c)))
+      for_sets (λ c. Says m (Power c) → IsOwn (option_map (made_pending a m.header) (option_map state_later (set_later c))))
       (λ flags d state says. by (bit_0 flags) d state says)
-      (λ c now later says. subst IsOwn (sym (ap (option_map (state_set a m.header)) later)) tt)
+      (λ c now later says. subst IsOwn (sym (ap (λ (o : Option (ℕ × ℕ)). option_map (made_pending a m.header) (option_map state_later o)) later)) tt)
     where
       by : (later : Bool) (d state : ℕ) → set_of m ≡ Some (resource.Domain d)
-          → IsOwn (option_map (state_set a m.header) (if later then Some (d, state) else None))
+          → IsOwn (option_map (made_pending a m.header) (option_map state_later (if later then Some (d, state) else None)))
       by true d state says = says
       by false d state says = tt
 
   accepts-clock : (c : ClockCommand) → Says m (Clock c) → IsOwn (acceptance board (success (Clock c)))
   accepts-clock =
-      for_changes board (λ c. Says m (Clock c) → IsOwn (option_map (rate_set a m.header) (rate_later board c)))
+      for_changes board (λ c. Says m (Clock c) → IsOwn (option_map (made_pending a m.header) (option_map rate_later_as (rate_later board c))))
       (λ flags c rate says. by (is_asynchronous flags) c (set_rate board flags c rate) (is_response_wanted flags) says)
       (λ c attributes says. tt)
-      (λ c now enabled later says. subst IsOwn (sym (ap (option_map (rate_set a m.header)) later)) tt)
+      (λ c now enabled later says. subst IsOwn (sym (ap (λ (o : Option (ℕ × ℕ × Bool)). option_map (made_pending a m.header) (option_map rate_later_as o)) later)) tt)
     where
       by : (later : Bool) (c rate : ℕ) (wanted : Bool) → set_of m ≡ Some (resource.Clock c)
-          → IsOwn (option_map (rate_set a m.header) (if later then Some (c, rate, wanted) else None))
+          → IsOwn (option_map (made_pending a m.header) (option_map rate_later_as (if later then Some (c, rate, wanted) else None)))
       by true c rate wanted says = says
       by false c rate wanted says = tt
 
@@ -188,41 +188,20 @@ module _ (board : Board) (b : ℕ) (s u : Situation) where
     pub may : may board s.allowed r ≡ may board u.allowed r
     pub free : has_set_of r s.pending ≡ false → has_set_of r u.pending ≡ false
 
-  power-same : (c : PowerCommand) (d state : ℕ) → set_now c ≡ Some (d, state) → reply_words board b s (Ok (Power c)) ≡ 0 ∷ []
-      → IsSameTo (resource.Domain d) → reply_words board b s (Ok (Power c)) ≡ reply_words board b u (Ok (Power c))
+  still : (c : Command) (e : Effect) → now_of board c ≡ Some e → reply_words board b s (Ok c) ≡ 0 ∷ [] → IsSameTo (resource_changed e)
+      → reply_words board b s (Ok c) ≡ reply_words board b u (Ok c)
   unfolding reply_words
-  power-same c d state now ok same =
-      power_laws.still board (power_view board b s) (power_view board b u) c (effect.State d state)
-      (ap begins_with_success ok) (ap (option_map state_effect) now) refl same.may same.free
-
-  clock-same : (c : ClockCommand) (e : Effect) → clock_effect (rate_now board c) (enabled_now c) ≡ Some e
-      → reply_words board b s (Ok (Clock c)) ≡ 0 ∷ []
-      → may_in (clock_view board b s) (resource_changed e) ≡ may_in (clock_view board b u) (resource_changed e)
-      → (busy_in (clock_view board b s) (resource_changed e) ≡ false → busy_in (clock_view board b u) (resource_changed e) ≡ false)
-      → reply_words board b s (Ok (Clock c)) ≡ reply_words board b u (Ok (Clock c))
-  unfolding reply_words
-  clock-same c e now ok may free =
-      clock_laws.still board (clock_view board b s) (clock_view board b u) c e (ap begins_with_success ok) now refl may free
+  still c e now ok same = (command_laws board b).still board s u c e (ap begins_with_success ok) now refl same.may same.free
 
   read-reply : (a : ℕ) (v : Situation) (r q : Result Command Status) → r ≡ q → reply_words board a v r ≡ 0 ∷ [] → reply_words board a v q ≡ 0 ∷ []
   read-reply a v r q same ok = subst (λ (x : Result Command Status). reply_words board a v x ≡ 0 ∷ []) same ok
 
   reply-same : (m : Message) (e : Effect) → effect_by board b m.header s (command_on board m) ≡ Some e → IsSameTo (resource_changed e)
       → reply_words board b s (command_on board m) ≡ reply_words board b u (command_on board m)
-  reply-same m (effect.State d state) has same =
-      let set = state-set board b m.header s (command_on board m) d state has in
-      subst (λ (r : Result Command Status). reply_words board b s r ≡ reply_words board b u r) (sym set.read) (power-same set.command d state set.now (read-reply b s (command_on board m) (Ok (Power set.command)) set.read set.reply) same)
-  reply-same m (effect.Rate k rate) has same =
-      let set = rate-set board b m.header s (command_on board m) k rate has in
-      let now = ap (λ (r : Option (ℕ × ℕ)). clock_effect r (enabled_now set.command)) set.now in
+  reply-same m e has same =
+      let set = makes board b m.header s (command_on board m) e has in
       subst (λ (r : Result Command Status). reply_words board b s r ≡ reply_words board b u r) (sym set.read)
-      (clock-same set.command (effect.Rate k rate) now (read-reply b s (command_on board m) (Ok (Clock set.command)) set.read set.reply) same.may same.free)
-  reply-same m (effect.Enabled k enabled) has same =
-      let set = config-set board b m.header s (command_on board m) k enabled has in
-      let now = ap (λ (r : Option (ℕ × ℕ)). clock_effect r (enabled_now set.command)) set.other
-      ∙ ap (clock_effect None) set.now in
-      subst (λ (r : Result Command Status). reply_words board b s r ≡ reply_words board b u r) (sym set.read)
-      (clock-same set.command (effect.Enabled k enabled) now (read-reply b s (command_on board m) (Ok (Clock set.command)) set.read set.reply) same.may same.free)
+      (still set.command e set.now (read-reply b s (command_on board m) (Ok set.command) set.read set.reply) same)
 
   effect-same : (f : Frame) (e : Effect) → effect_in board b f s ≡ Some e → IsSameTo (resource_changed e) → effect_in board b f u ≡ Some e
   effect-same (Malformed len header) e has same = absurd (let no : None ≡ Some e = has in cc)
@@ -344,36 +323,20 @@ module _ (board : Board) (a : ℕ) (m : Message) (words : List ℕ) where
     pub permits : (b d : ℕ) (scope : Scope) → option_and_then (λ it. permission_in board b d scope it.command) (success_of a m.header r words) ≡ None
     pub accepts : option_and_then (acceptance board) (success_of a m.header r words) ≡ None
 
-  power-at-once : (c : PowerCommand) → set_later c ≡ None → IsAtOnce (Ok (Power c))
-  power-at-once c none = record { permits = λ b d scope. permits (begins_with_success words) b d scope; accepts = accepts (begins_with_success words) } where
-    permits : (done : Bool) (b d : ℕ) (scope : Scope) → option_and_then (λ it. permission_in board b d scope it.command) (if done then success_with a m.header (Ok (Power c)) else None) ≡ None
-    permits true b d scope = refl
+  made-at-once : (c : Command) (e : Effect) → now_of board c ≡ Some e → IsAtOnce (Ok c)
+  made-at-once c e now = record { permits = λ b d scope. permits (begins_with_success words) b d scope; accepts = accepts (begins_with_success words) } where
+    permits : (done : Bool) (b d : ℕ) (scope : Scope) → option_and_then (λ it. permission_in board b d scope it.command) (if done then success_with a m.header (Ok c) else None) ≡ None
+    permits true b d scope = (unreset board a board c e now).1 b d scope
     permits false b d scope = refl
 
-    accepts : (done : Bool) → option_and_then (acceptance board) (if done then success_with a m.header (Ok (Power c)) else None) ≡ None
-    accepts true = ap (option_map (state_set a m.header)) none
-    accepts false = refl
-
-  clock-at-once : (c : ClockCommand) → rate_later board c ≡ None → IsAtOnce (Ok (Clock c))
-  clock-at-once c none = record { permits = λ b d scope. permits (begins_with_success words) b d scope; accepts = accepts (begins_with_success words) } where
-    permits : (done : Bool) (b d : ℕ) (scope : Scope) → option_and_then (λ it. permission_in board b d scope it.command) (if done then success_with a m.header (Ok (Clock c)) else None) ≡ None
-    permits true b d scope = refl
-    permits false b d scope = refl
-
-    accepts : (done : Bool) → option_and_then (acceptance board) (if done then success_with a m.header (Ok (Clock c)) else None) ≡ None
-    accepts true = ap (option_map (rate_set a m.header)) none
+    accepts : (done : Bool) → option_and_then (acceptance board) (if done then success_with a m.header (Ok c) else None) ≡ None
+    accepts true = ap (option_map (made_pending a m.header)) (none_later (later_of board c) (now_of board c) e ((command_laws board a).once board c) now)
     accepts false = refl
 
   at-once : (s : Situation) (e : Effect) → effect_by board a m.header s (command_on board m) ≡ Some e → IsAtOnce (command_on board m)
-  at-once s (effect.State d state) has =
-      let set = state-set board a m.header s (command_on board m) d state has in
-      subst IsAtOnce (sym set.read) (power-at-once set.command set.later)
-  at-once s (effect.Rate k rate) has =
-      let set = rate-set board a m.header s (command_on board m) k rate has in
-      subst IsAtOnce (sym set.read) (clock-at-once set.command set.later)
-  at-once s (effect.Enabled k enabled) has =
-      let set = config-set board a m.header s (command_on board m) k enabled has in
-      subst IsAtOnce (sym set.read) (clock-at-once set.command set.later)
+  at-once s e has =
+      let set = makes board a m.header s (command_on board m) e has in
+      subst IsAtOnce (sym set.read) (made-at-once set.command e set.now)
 
 -- a command with an effect
 pub quiet-effect : (board : Board) (h : List Event) (r : Resource) (a : ℕ) (f : Frame) (e : Effect) → effect_after board h (Called a f) ≡ Some e
@@ -404,18 +367,11 @@ pub record IsShort (f : Frame) : Type 0 where
 
 pub short : (board : Board) (h : List Event) (a : ℕ) (f : Frame) (e : Effect) → effect_after board h (Called a f) ≡ Some e → IsShort f
 short board h a (Malformed len header) e has = absurd (let no : None ≡ Some e = has in cc)
-short board h a (Good m) e has = record { message = m; is = refl; few = by e fit.1 } where
-  fit : (fits_channel board a m ≡ true) × (effect_by board a m.header (situation_after board a (deeds board h)) (command_on board m) ≡ Some e)
-  fit = effect-fits board a m (situation_after board a (deeds board h)) e (effect-stood board h a (Good m) ∙ has)
-
-  read : (r : Result Command Status) (c : Command) → IfOk r (λ c. length m.payload.items ≤ 4) → r ≡ Ok c → length m.payload.items ≤ 4
-  read (Ok d) c few is = few
-  read (Err e) c few is = absurd (let no : Err e ≡ Ok c = is in cc)
-
-  by : (e : Effect) → effect_by board a m.header (situation_after board a (deeds board h)) (command_on board m) ≡ Some e → length m.payload.items ≤ 4
-  by (effect.State d state) has = let set = state-set board a m.header (situation_after board a (deeds board h)) (command_on board m) d state has in
-      read (command_on board m) (Power set.command) (on board m (λ c. length m.payload.items ≤ 4) (few-words m)) set.read
-  by (effect.Rate k rate) has = let set = rate-set board a m.header (situation_after board a (deeds board h)) (command_on board m) k rate has in
-      read (command_on board m) (Clock set.command) (on board m (λ c. length m.payload.items ≤ 4) (few-words m)) set.read
-  by (effect.Enabled k enabled) has = let set = config-set board a m.header (situation_after board a (deeds board h)) (command_on board m) k enabled has in
-      read (command_on board m) (Clock set.command) (on board m (λ c. length m.payload.items ≤ 4) (few-words m)) set.read
+short board h a (Good m) e has =
+    let s = situation_after board a (deeds board h) in
+    let fit = effect-fits board a m s e (effect-stood board h a (Good m) ∙ has) in
+    let set = makes board a m.header s (command_on board m) e fit.1 in
+    record { message = m; is = refl; few = read (command_on board m) set.command (on board m (λ c. length m.payload.items ≤ 4) (few-words m)) set.read } where
+      read : (r : Result Command Status) (c : Command) → IfOk r (λ c. length m.payload.items ≤ 4) → r ≡ Ok c → length m.payload.items ≤ 4
+      read (Ok d) c few is = few
+      read (Err e) c few is = absurd (let no : Err e ≡ Ok c = is in cc)

@@ -10,7 +10,7 @@ use Rattle.scmi_codec.specs.declared.status.Status.{Status}
 use Rattle.scmi_plan.specs.Board.{Board, channel_of}
 use Rattle.scmi_core.specs.Commands.{later_effect_of, later_of, setting_effect}
 use Rattle.scmi_core.specs.Deed.{Success, success_with}
-use Rattle.scmi_core.specs.Pending.{acceptance, set_of}
+use Rattle.scmi_core.specs.Pending.{acceptance, made_pending}
 use Rattle.scmi_core.specs.Reply.{reply_words}
 use Rattle.scmi_core.specs.Situation.{Situation, has_room}
 use Rattle.scmi_core.specs.declared.pending_set.PendingSet.{PendingSet}
@@ -43,7 +43,7 @@ module _ (board : Board) (a : ℕ) (header : HeaderFields) (s : Situation) (p : 
   accepted (Err e) is = absurd (let gone = (then_some (begins_with_success (reply_words board a s (Err e))) None (acceptance board) p is).1 in cc)
   accepted (Ok c) is =
       let two = then_some (begins_with_success (reply_words board a s (Ok c))) (success_with a header (Ok c)) (acceptance board) p is in
-      let set = mapped (set_of a header) (later_of board c) p two.1 in
+      let set = mapped (made_pending a header) (later_of board c) p two.1 in
       let effect = setting_effect set.0.setting in
       let later : later_effect_of board c ≡ Some effect = ap (option_map (λ l. setting_effect l.setting)) set.1 in
       record {

@@ -28,7 +28,7 @@ use Rattle.scmi_core.specs.History.{deed_after, deeds}
 use Rattle.scmi_core.specs.Laws.{HasCause, HasIntegrity, HasOrigin, IsKeptOn, IsKeptOnByAgents, IsReported, IsSettled, KeepsOn, change_asked, may_after}
 use Rattle.scmi_core.specs.Legal.{CanFollow, IsLegal}
 use Rattle.scmi_core.specs.Outbox.{situation_after}
-use Rattle.scmi_core.specs.Pending.{acceptance, pending_sets, promoted, set_of, setting_with, settled, unwanted}
+use Rattle.scmi_core.specs.Pending.{acceptance, pending_sets, promoted, made_pending, setting_with, settled, unwanted}
 use Rattle.scmi_core.specs.ReadCommand.{command_on}
 use Rattle.scmi_core.specs.Reply.{fits_channel, reply_words}
 use Rattle.scmi_core.specs.Situation.{Situation}
@@ -63,7 +63,7 @@ module _ (board : Board) (a : ℕ) (header : HeaderFields) (s : Situation) (chan
   asks command = change_asked board (record { caller = a; header = header; command = command })
 
   -- the effect that a success asks for, at once or for later
-  asked-of : (now : Option Effect) (later : Option Later) → option_or (option_map (given a) now) (option_map completion (option_map (set_of a header) later)) ≡ Some change
+  asked-of : (now : Option Effect) (later : Option Later) → option_or (option_map (given a) now) (option_map completion (option_map (made_pending a header) later)) ≡ Some change
       → (e : Effect) × (option_or now (option_map (λ l. setting_effect l.setting) later) ≡ Some e) × (given a e ≡ change)
   asked-of (Some e) later is = (e, refl, ap (λ o. unwrap_or o change) is)
   asked-of None (Some l) is = (setting_effect l.setting, refl, ap (λ o. unwrap_or o change) is)
@@ -94,7 +94,7 @@ now-asked board (Some s) change is = ap (λ now. option_or now (option_map compl
 module _ (board : Board) (a : ℕ) (header : HeaderFields) (p : PendingSet) where
   pub later : (c : codec.Command) → acceptance board (record { caller = a; header = header; command = c }) ≡ Some p → change_now board (record { caller = a; header = header; command = c }) ≡ None
   later c is =
-      let set = mapped (set_of a header) (later_of board c) p is in
+      let set = mapped (made_pending a header) (later_of board c) p is in
       let effect = setting_effect set.0.setting in
       ap (option_map (given a)) ((command_laws board a).once board c effect (ap (option_map (λ l. setting_effect l.setting)) set.1))
 

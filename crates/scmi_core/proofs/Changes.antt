@@ -21,7 +21,7 @@ use Rattle.scmi_core.specs.Commands.{Later, later_of, now_of, request_of, settin
 use Rattle.scmi_core.specs.Deed.{Success, success_of}
 use Rattle.scmi_core.specs.Effect.{effect_of}
 use Rattle.scmi_core.specs.Outbox.{made_in, notice_in, response_for, state_changed}
-use Rattle.scmi_core.specs.Pending.{acceptance, set_of, sets_by}
+use Rattle.scmi_core.specs.Pending.{acceptance, made_pending, sets_by}
 use Rattle.scmi_core.specs.Step.{HasChanged, HasStepped}
 use Rattle.scmi_core.specs.Subscriptions.{subscription, subscription_after_reset}
 use Rattle.scmi_core.specs.Tables.{IsOfBoard, IsThing, outbox_at, situation_in, value_at}
@@ -49,7 +49,7 @@ command-effect board a header c reply =
       by false now = refl
 
 -- it leaves no set for later
-none_later : (later : Option Later) (now : Option Effect) (e : Effect)
+pub none_later : (later : Option Later) (now : Option Effect) (e : Effect)
     → ((f : Effect) → option_map (λ l. setting_effect l.setting) later ≡ Some f → now ≡ None) → now ≡ Some e → later ≡ None
 none_later None now e once is = refl
 none_later (Some l) now e once is = absurd (let no = sym (once (setting_effect l.setting) refl) ∙ is in cc)
@@ -61,7 +61,7 @@ made-stepped board t new a header c e now it =
     let success : Success = record { caller = a; header = header; command = c } in
     let alone = unreset board a board c e now in
     let change : change_now board success ≡ Some (given a e) = ap (option_map (given a)) now in
-    let later : acceptance board success ≡ None = ap (option_map (set_of a header)) (none_later (later_of board c) (now_of board c) e (laws.once board c) now) in
+    let later : acceptance board success ≡ None = ap (option_map (made_pending a header)) (none_later (later_of board c) (now_of board c) e (laws.once board c) now) in
     let silent : (x d : ℕ) → subscription x d success ≡ None = λ x d.
     ap (λ r. option_or (subscription_after_reset x r) (request_of x d a c)) alone.0 ∙ laws.alone board c e x d a now in
     record {

@@ -22,7 +22,7 @@ use Rattle.scmi_core.specs.Deed.{success_with, success_of}
 use Rattle.scmi_core.specs.Commands.{permission_in, rate_later_as}
 use Rattle.scmi_clock.specs.ClockProtocol.{clock_effect}
 use Rattle.scmi_core.specs.Subscriptions.{subscription, subscription_after_reset}
-use Rattle.scmi_core.specs.Pending.{acceptance, rate_set, set_of}
+use Rattle.scmi_core.specs.Pending.{acceptance, rate_set, made_pending}
 use Rattle.scmi_core.specs.Value.{Change, change_now, given, Thing, State, Rate, Enabled, bit_value, value_in, change_of}
 use Rattle.scmi_core.specs.Tables.{outbox_at, value_at, IsThing, IsOfBoard, situation_in}
 use Rattle.scmi_core.specs.Outbox.{made_in}
@@ -48,7 +48,7 @@ clock-given a None None = refl
 clock-given a None (Some set) = refl
 clock-given a (Some set) enabled = refl
 
-clock-accepted : (a : ℕ) (header : HeaderFields) (later : Option (ℕ × ℕ × Bool)) → option_map (set_of a header) (option_map rate_later_as later) ≡ option_map (rate_set a header) later
+clock-accepted : (a : ℕ) (header : HeaderFields) (later : Option (ℕ × ℕ × Bool)) → option_map (made_pending a header) (option_map rate_later_as later) ≡ option_map (rate_set a header) later
 clock-accepted a header None = refl
 clock-accepted a header (Some set) = refl
 

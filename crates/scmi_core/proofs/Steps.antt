@@ -23,7 +23,7 @@ use Rattle.scmi_core.specs.Commands.{state_later}
 use Rattle.scmi_core.specs.Deed.{Success, success_with, success_of}
 use Rattle.scmi_core.specs.Commands.{permission_in}
 use Rattle.scmi_core.specs.Subscriptions.{subscription}
-use Rattle.scmi_core.specs.Pending.{acceptance, set_of, state_set, sets_by}
+use Rattle.scmi_core.specs.Pending.{acceptance, made_pending, state_set, sets_by}
 use Rattle.scmi_core.specs.Value.{Change, change_now, given, Thing, State, Rate, Enabled, bit_value, value_in, change_of}
 use Rattle.scmi_core.specs.Outbox.{made_in, notice_in, state_changed}
 use Rattle.scmi_core.specs.Tables.{outbox_at, load_at, situation_in, value_at, IsThing, IsOfBoard}
@@ -92,7 +92,7 @@ power-given : (a : ℕ) (now : Option (ℕ × ℕ)) → option_map (given a) (op
 power-given a None = refl
 power-given a (Some set) = refl
 
-power-accepted : (a : ℕ) (header : HeaderFields) (later : Option (ℕ × ℕ)) → option_map (set_of a header) (option_map state_later later) ≡ option_map (state_set a header) later
+power-accepted : (a : ℕ) (header : HeaderFields) (later : Option (ℕ × ℕ)) → option_map (made_pending a header) (option_map state_later later) ≡ option_map (state_set a header) later
 power-accepted a header None = refl
 power-accepted a header (Some set) = refl
 

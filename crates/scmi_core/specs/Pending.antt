@@ -18,20 +18,20 @@ use Rattle.scmi_core.specs.Deed.{Deed, Success, fold_with_prefix, success_at}
 use Rattle.scmi_core.specs.declared.pending_set.Setting.TheVariants as setting
 
 -- a set of agent a that is accepted for later
-abbrev pub set_of : ℕ → HeaderFields → Later → PendingSet
-set_of a header later = record { agent = a; setting = later.setting; header = header; wanted = later.wanted }
+abbrev pub made_pending : ℕ → HeaderFields → Later → PendingSet
+made_pending a header later = record { agent = a; setting = later.setting; header = header; wanted = later.wanted }
 
 -- a domain's set
 abbrev pub state_set : ℕ → HeaderFields → ℕ × ℕ → PendingSet
-state_set a header set = set_of a header (state_later set)
+state_set a header set = made_pending a header (state_later set)
 
 -- a clock's set
 abbrev pub rate_set : ℕ → HeaderFields → ℕ × ℕ × Bool → PendingSet
-rate_set a header set = set_of a header (rate_later_as set)
+rate_set a header set = made_pending a header (rate_later_as set)
 
 -- the set that a success leaves pending
 abbrev pub acceptance : Board → Success → Option PendingSet
-acceptance board s = option_map (set_of s.caller s.header) (later_of board s.command)
+acceptance board s = option_map (made_pending s.caller s.header) (later_of board s.command)
 
 -- whether an event ends a set: it completes it, or the hardware refused its change
 abbrev pub is_advance : Event → Bool

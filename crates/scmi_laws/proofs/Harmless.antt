@@ -6,7 +6,7 @@ use Rattle.scmi_codec.specs.declared.command.Command as codec
 use Rattle.scmi_plan.specs.Board.{Board}
 use Rattle.scmi_core.specs.Commands.{later_effect_of, later_of, now_of, request_of, reset_of, setting_effect}
 use Rattle.scmi_core.specs.Deed.{Success}
-use Rattle.scmi_core.specs.Pending.{set_of}
+use Rattle.scmi_core.specs.Pending.{made_pending}
 use Rattle.scmi_core.specs.Subscriptions.{subscription_after_reset}
 use Rattle.scmi_core.specs.Value.{given}
 use Rattle.scmi_core.proofs.CommandLaws.{command_laws, granting, ungranted}
@@ -32,7 +32,7 @@ harmless board s is =
     let alone = ungranted board s.caller s.command both.1 in
     record {
       change = ap (option_map (given s.caller)) none.0;
-      set = ap (option_map (set_of s.caller s.header)) (unmapped _ (later_of board s.command) none.1);
+      set = ap (option_map (made_pending s.caller s.header)) (unmapped _ (later_of board s.command) none.1);
       permission = alone.1;
       subscription = λ a d.
           ap (λ r. option_or (subscription_after_reset a r) (request_of a d s.caller s.command)) alone.0
@@ -43,7 +43,7 @@ pub complete : (board : Board) (s : Success) → DoesNothing board s → is_read
 complete board s does =
     let now : now_of board s.command ≡ None = unmapped (given s.caller) _ does.change in
     let later : later_effect_of board s.command ≡ None =
-    ap (option_map (λ l. setting_effect l.setting)) (unmapped (set_of s.caller s.header) _ does.set) in
+    ap (option_map (λ l. setting_effect l.setting)) (unmapped (made_pending s.caller s.header) _ does.set) in
     let reset : reset_of s.command ≡ None =
     (silent (reset_of s.command) (λ a. request_of a 0 s.caller s.command) (λ a. does.subscription a 0)).0 in
     let request = λ d.

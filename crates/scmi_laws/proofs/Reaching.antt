@@ -21,7 +21,7 @@ use Rattle.scmi_core.specs.History.{deed_after, deeds}
 use Rattle.scmi_core.specs.Laws.{IsTrusted, change_asked, may_after}
 use Rattle.scmi_core.specs.Legal.{IsLegal}
 use Rattle.scmi_core.specs.Outbox.{made_in, notice_in, state_changed}
-use Rattle.scmi_core.specs.Pending.{acceptance, set_of, sets_by}
+use Rattle.scmi_core.specs.Pending.{acceptance, made_pending, sets_by}
 use Rattle.scmi_core.specs.Commands.{later_of, permission_in, request_of, reset_of}
 use Rattle.scmi_core.specs.declared.outboxes.TheConstants.{OUTBOX_ROOM}
 use Rattle.scmi_codec.specs.declared.message.Message.{Message}
@@ -80,7 +80,7 @@ module _ (board : Board) (h : List Event) (a : ℕ) (header : HeaderFields) wher
 
   accepted-own : (c : codec.Command) (p : PendingSet) → acceptance board (success c) ≡ Some p
       → p.agent ≡ a
-  accepted-own c p is = set-agent a (set_of a header) (λ later. refl) (later_of board c) p is
+  accepted-own c p is = set-agent a (made_pending a header) (λ later. refl) (later_of board c) p is
 
   -- a request for notifications is the caller's own
   request-silent : (b d : ℕ) → a ≢ b → (c : codec.Command) → succeeds (Ok c) ≡ true
