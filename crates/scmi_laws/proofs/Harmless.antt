@@ -4,7 +4,7 @@ use Rattle.std.specs.Option.{option_or}
 use Rattle.std.proofs.lemmas.Bool.{and_parts, eq-eqb}
 use Rattle.scmi_codec.specs.declared.command.Command as codec
 use Rattle.scmi_plan.specs.Board.{Board}
-use Rattle.scmi_core.specs.Commands.{later_effect_of, later_of, now_of, request_of, reset_of, setting_effect}
+use Rattle.scmi_core.specs.Commands.{grants_nothing, later_effect_of, later_of, now_of, request_of, reset_of, setting_effect}
 use Rattle.scmi_core.specs.Deed.{Success}
 use Rattle.scmi_core.specs.Pending.{made_pending}
 use Rattle.scmi_core.specs.Subscriptions.{subscription_after_reset}
@@ -46,7 +46,7 @@ complete board s does =
     ap (option_map (λ l. setting_effect l.setting)) (unmapped (made_pending s.caller s.header) _ does.set) in
     let reset : reset_of s.command ≡ None =
     (silent (reset_of s.command) (λ a. request_of a 0 s.caller s.command) (λ a. does.subscription a 0)).0 in
-    let request = λ d.
+    let request : (d : ℕ) → request_of s.caller d s.caller s.command ≡ None = λ d.
     (silent (reset_of s.command) (λ a. request_of a d s.caller s.command) (λ a. does.subscription a d)).1 s.caller in
-    ap (λ b. b && _) ((command_laws board s.caller).acts board s.command s.caller now later request)
+    ap (λ b. b && grants_nothing s.command) ((command_laws board s.caller).acts board s.command s.caller now later request)
     ∙ granting board s.caller s.command reset does.permission
