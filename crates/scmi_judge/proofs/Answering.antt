@@ -9,7 +9,6 @@ use Rattle.scmi_codec.specs.declared.frame.Answer.{Answer}
 use Rattle.scmi_codec.specs.declared.frame.Answer.TheVariants.{ChannelError, Released, Reply}
 use Rattle.scmi_plan.specs.Board.{Board}
 use Rattle.scmi_plan.specs.declared.effect.Effect.{Effect}
-use Rattle.scmi_plan.specs.declared.effect.Effect.TheVariants as effect
 use Rattle.scmi_core.specs.declared.event.Event.{Event}
 use Rattle.scmi_core.specs.declared.event.Event.TheVariants.{Command}
 use Rattle.scmi_core.specs.Deed.{success_of}
@@ -21,7 +20,7 @@ use Rattle.scmi_core.specs.Reply.{failed_answer, fits_channel, reply_words}
 use Rattle.scmi_core.specs.Value.{change_of}
 use Rattle.scmi_codec.specs.declared.fault.Fault.{Fault}
 use Rattle.scmi_codec.specs.declared.fault.Fault.TheVariants as fault
-use Rattle.scmi_core.proofs.Commits.{answer-fits, config-set, effect_by, effect-fits, rate-set, state-set}
+use Rattle.scmi_core.proofs.Commits.{answer-fits, changed-by, effect-fits}
 use Rattle.scmi_judge.specs.Shown.{fault_in_words, fault_shown, has_succeeded}
 
 -- what is there
@@ -45,12 +44,7 @@ message-succeeds : (board : Board) (h : List Event) (a : ℕ) (m : Message) (e :
 message-succeeds board h a m e has =
     let s = situation_after board a (deeds board h) in
     let fit = effect-fits board a m s e (effect-given board h a m e has) in
-    answer-fits board a m s fit.0 ∙ ap (λ words. Reply (message_with m.header words)) (words e fit.1) where
-      words : (e : Effect) → effect_by board a m.header (situation_after board a (deeds board h)) (command_on board m) ≡ Some e
-          → reply_words board a (situation_after board a (deeds board h)) (command_on board m) ≡ 0 ∷ []
-      words (effect.State d state) has = (state-set board a m.header (situation_after board a (deeds board h)) (command_on board m) d state has).reply
-      words (effect.Rate c rate) has = (rate-set board a m.header (situation_after board a (deeds board h)) (command_on board m) c rate has).reply
-      words (effect.Enabled c enabled) has = (config-set board a m.header (situation_after board a (deeds board h)) (command_on board m) c enabled has).reply
+    answer-fits board a m s fit.0 ∙ ap (λ words. Reply (message_with m.header words)) (changed-by board a m s e (effect-given board h a m e has)).reply
 
 -- a command that is to change the hardware succeeds
 change-succeeds : (board : Board) (h : List Event) (a : ℕ) (f : Frame) → effect_after board h (Command a f) ≢ None → has_succeeded (answer_to board a f h) ≡ true
