@@ -28,8 +28,6 @@ IsUnderWay l None left d n old now = Unit {0}
 IsUnderWay l (Some input) None d n old now = ⊥
 IsUnderWay l (Some input) (Some rest) d n old now = IsOnItsWay l input rest d n old now
 
-}
-
 has_feed : (rest : List ℕ) → true ≡ has_line_feed rest → position_or_len is_line_feed rest < length rest
 has_feed rest e = grind (arith, nat_tests)
 

@@ -166,10 +166,3 @@ done_at_close full orders board h a log script headline is =
 pub all_end_at_close : (full : Bool) (orders : ℕ → List Order) (board : Board) (h : List Event) (a : ℕ) (logs : List AgentLog) → AllFrom (λ b log. IsScriptLog full (orders b) log) a logs → AllFrom (LogHeadline board h) a logs → AllFrom (λ b log. EndsAtClose full (orders b) h b log) a logs
 all_end_at_close full orders board h a [] scripts headlines = tt
 all_end_at_close full orders board h a (log ∷ logs) scripts headlines = (done_at_close full (orders a) board h a log scripts.0 headlines.0, all_end_at_close full orders board h (a + 1) logs scripts.1 headlines.1)
-
-  closed_first : (part : Part) → CloseWrites None part → part.posted ≡ []
-  closed_first _ close_done = refl
-
-  go : (s : Option Stop) (parts : List Part) → Follows full false 0 (order.Close ∷ orders) s parts → flat_map (λ p. p.posted) parts ≡ []
-  go _ _ (ends_here _ _ _ _ why part w) = close_ended why part w
-  go _ _ (goes_on _ _ _ _ s part parts w f) = ap₂ (λ xs ys. xs ++ ys) (closed_first part w) (all_still full true (0 + length part.posted) orders s parts refl f).posted
