@@ -10,11 +10,13 @@ use Rattle.scmi_modes.specs.declared.mode_lines.TheConstants.{HARDWARE_RINGS, HA
 abbrev pub is_hardware : List ℕ → Bool
 is_hardware line = bytes_eq line HARDWARE_RINGS.now || bytes_eq line HARDWARE_WORDS.now
 
--- an input, by whether its mode is one of `hardware`: then its board is in Hz and it has numbers in place of names, else it is as it was
+-- an input, by whether its mode is one of `hardware`: then its board is in Hz and it has numbers in
+-- place of names, else it is as it was
 abbrev pub IsGivenBy : Bool → (input given : List ℕ) → Type 0
 IsGivenBy false input given = given ≡ input
 IsGivenBy true input given =
-    (first_line given ≡ first_line input) × IsInNumbers (in_hertz (after_line input)) (after_line given)
+    (first_line given ≡ first_line input)
+    × IsInNumbers (in_hertz (after_line input)) (after_line given)
 
 -- an input, and what it is run as
 abbrev pub IsGiven : (input given : List ℕ) → Type 0

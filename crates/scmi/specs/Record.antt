@@ -16,7 +16,9 @@ pub record AreNamesOf (text : List ℕ) (names : BoardNames) : Type 0 where
   pub agents_are : names.agents ≡ length said.0.agents
 
 -- a record was checked with this status, each of its lines by the names of the board that a text is
-pub record IsNamedRecord (options : CheckOptions) (text : List ℕ) (known : Option (List ℕ)) (status : ℕ) : Type 0 where
+pub record IsNamedRecord (options : CheckOptions) (text : List ℕ) (known : Option (List ℕ))
+    (status : ℕ) : Type 0 where
   pub said : Described
   pub of_text : IsBoardText text said
-  pub is_checked : IsChecked (IsLineInNumbers said.0 (length said.0.agents)) options (Some text) known status
+  pub is_checked : IsChecked (IsLineInNumbers said.0 (length said.0.agents)) options
+      (Some text) known status

@@ -13,8 +13,10 @@ pub record HoldsBoard (known : Option (List ℕ)) : Type 0 where
   pub said : Described
   pub of_text : IfSome known (λ text. IsBoardText text said)
 
--- a run ends with this status and the line of a fault, which is one of the text if that is known, and nothing else is written
-pub record EndsWithFault (known : Option (List ℕ)) (status : ℕ) (old new : Option (List ℕ)) : Type 0 where
+-- a run ends with this status and the line of a fault, which is one of the text if that is known,
+-- and nothing else is written
+pub record EndsWithFault (known : Option (List ℕ)) (status : ℕ)
+    (old new : Option (List ℕ)) : Type 0 where
   pub fault : CheckError
   pub status_is : status ≡ fault_status fault
   pub of_text : IfSome known (λ text. IsFaultOfBoard text fault)

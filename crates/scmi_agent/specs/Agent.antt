@@ -15,7 +15,8 @@ use Rattle.scmi_agent.specs.declared.reply.Reply.{Reply}
 
 -- the message of a command at a token
 abbrev pub message_at : Command → ℕ → Message
-message_at c token = record { header = command_header c token; payload = record { items = command_words c } }
+message_at c token =
+    record { header = command_header c token; payload = record { items = command_words c } }
 
 -- the message of a command at an agent's next token
 abbrev pub next_message : Agent → Command → Message
@@ -23,13 +24,18 @@ next_message a c = message_at c (a.next % TOKENS)
 
 -- an agent after it posted a command: tokens run modulo their number
 abbrev pub agent_after_post : Agent → Command → Agent
-agent_after_post a c = record { next = (a.next % TOKENS + 1) % TOKENS; posted = Some (command_header c (a.next % TOKENS)) }
+agent_after_post a c = record {
+  next = (a.next % TOKENS + 1) % TOKENS;
+  posted = Some (command_header c (a.next % TOKENS));
+}
 
--- an area of a free channel, with no error bit, holds a message of exactly this header, and its words say this
+-- an area of a free channel, with no error bit, holds a message of exactly this header, and its
+-- words say this
 pub record IsReplyOf (header : HeaderFields) (area : List ℕ) (reply : Reply) : Type 0 where
   pub words : List ℕ
   pub free : status_at area % 4 ≡ 1
-  pub message : frame_of area ≡ Good (record { header = header; payload = record { items = words } })
+  pub message : frame_of area
+      ≡ Good (record { header = header; payload = record { items = words } })
   pub says : reply_of header words ≡ Ok reply
 
 -- whether a message has another header

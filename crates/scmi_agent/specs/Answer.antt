@@ -15,5 +15,6 @@ message_in (frame.Malformed n header) = Err Malformed
 -- the message that a platform left as its answer, or why there is none
 abbrev pub answer_in : List ℕ → Result Message ReadError
 answer_in area =
-    if status_at area % 2 == 1 then (if status_at area / 2 % 2 == 1 then Err ChannelError else message_in (frame_of area))
+    if status_at area % 2 == 1
+    then (if status_at area / 2 % 2 == 1 then Err ChannelError else message_in (frame_of area))
     else Err Nothing

@@ -9,7 +9,8 @@ use Rattle.scmi_agent.specs.declared.base_reply.BaseReply.TheVariants as base
 -- a count, and as many ids of protocols, four to a word
 abbrev pub protocols_of : List ℕ → Option BaseReply
 protocols_of [] = None
-protocols_of (count ∷ ids) = if length ids == (count + 3) / 4 then Some (base.Protocols count (record { items = ids })) else None
+protocols_of (count ∷ ids) = if length ids == (count + 3) / 4
+    then Some (base.Protocols count (record { items = ids })) else None
 
 -- the readings in the order of the table
 abbrev pub base_readings : List (List Part → List ℕ → Option BaseReply)
@@ -22,7 +23,8 @@ base_readings =
     ∷ exactly (λ w. base.Implementation (slice_index w 0))
     ∷ (λ parts words. protocols_of words)
     ∷ exactly (λ w. base.Agent (slice_index w 0) (name_at 1 w))
-    ∷ exactly (λ w. base.Permit) ∷ exactly (λ w. base.PermitProtocol) ∷ exactly (λ w. base.ResetAgent)
+    ∷ exactly (λ w. base.Permit) ∷ exactly (λ w. base.PermitProtocol)
+    ∷ exactly (λ w. base.ResetAgent)
     ∷ []
 
 -- what words give as the reply to a message of an id

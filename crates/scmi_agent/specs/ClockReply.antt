@@ -1,4 +1,5 @@
--- The replies of the clock protocol (DEN0056B, clock management protocol), 0x14, behind the status SUCCESS.
+-- The replies of the clock protocol (DEN0056B, clock management protocol), 0x14, behind the status
+-- SUCCESS.
 use Rattle.std.specs.Prelude.{ℕ, ◌*◌, ◌%◌, ◌^◌, ◌==◌, ◌&&◌, nat_lt, Bool, if◌then◌else◌, List, [], ◌∷◌, length, Option, Some, None, slice_index}
 use Rattle.scmi_codec.specs.Rate.{rate_of}
 use Rattle.scmi_codec.specs.Listing.{clock_rows}
@@ -14,7 +15,8 @@ has_rates flags words = nat_lt 0 (flags % 2 ^ 12) && (words == 2 * (flags % 2 ^ 
 -- a flags word, and as many rates as it says
 abbrev pub rates_of : List ℕ → Option ClockReply
 rates_of [] = None
-rates_of (flags ∷ rates) = if has_rates flags (length rates) then Some (clock.Describe flags (record { items = rates })) else None
+rates_of (flags ∷ rates) = if has_rates flags (length rates)
+    then Some (clock.Describe flags (record { items = rates })) else None
 
 -- the readings in the order of the table
 abbrev pub clock_readings : List (List Part → List ℕ → Option ClockReply)

@@ -1,4 +1,5 @@
--- Delayed responses, type 2, and notifications, type 3, as the platform posts them in an agent's P2A channel.
+-- Delayed responses, type 2, and notifications, type 3, as the platform posts them in an agent's
+-- P2A channel.
 use Rattle.std.specs.Prelude.{ℕ, ◌==◌, ◌&&◌, if◌then◌else◌, List, [], length, Option, Some, None, Result, Ok, Err, slice_index}
 use Rattle.std.specs.Option.{option_map_or}
 use Rattle.scmi_codec.specs.Area.{frame_waiting}
@@ -22,12 +23,15 @@ later_parts protocol id = option_map_or (λ row. row.later) (listed_row protocol
 
 -- payload words as the delayed response to the state set of a token
 abbrev pub state_set_of : ℕ → List ℕ → Result Notice ReadError
-state_set_of token words = said_by (exactly (λ w. StateSet token (slice_index w 0) (slice_index w 1)) (later_parts 0x11 0x4)) (StateSetRefused token) words
+state_set_of token words = said_by
+    (exactly (λ w. StateSet token (slice_index w 0) (slice_index w 1)) (later_parts 0x11 0x4))
+    (StateSetRefused token) words
 
 -- payload words as the delayed response to the rate set of a token
 abbrev pub rate_set_of : ℕ → List ℕ → Result Notice ReadError
 rate_set_of token words =
-    said_by (exactly (λ w. RateSet token (slice_index w 0) (rate_of (slice_index w 1) (slice_index w 2))) (later_parts 0x14 0x5)) (RateSetRefused token) words
+    said_by (exactly (λ w. RateSet token (slice_index w 0) (rate_of (slice_index w 1)
+    (slice_index w 2))) (later_parts 0x14 0x5)) (RateSetRefused token) words
 
 -- payload words as the delayed response of a header
 abbrev pub delayed_of : HeaderFields → List ℕ → Result Notice ReadError
@@ -36,11 +40,13 @@ delayed_of h words =
     else if (h.protocol == 0x14) && (h.id == 0x5) then rate_set_of h.token words
     else Err Foreign
 
--- payload words as the notification of a header: that of a state has the agent, the domain and its state
+-- payload words as the notification of a header: that of a state has the agent, the domain and its
+-- state
 abbrev pub change_of : HeaderFields → List ℕ → Result Notice ReadError
 change_of h words =
     if (h.protocol == 0x11) && (h.id == 0x0) then
-    (if length words == 3 then Ok (StateChanged (slice_index words 0) (slice_index words 1) (slice_index words 2)) else Err WrongWords)
+    (if length words == 3 then Ok (StateChanged (slice_index words 0) (slice_index words 1)
+    (slice_index words 2)) else Err WrongWords)
     else Err Foreign
 
 -- what a message says

@@ -1,4 +1,5 @@
--- The replies of the power domain protocol (DEN0056B, power domain management protocol), 0x11, behind the status SUCCESS.
+-- The replies of the power domain protocol (DEN0056B, power domain management protocol), 0x11,
+-- behind the status SUCCESS.
 use Rattle.std.specs.Prelude.{ℕ, List, [], ◌∷◌, Option, slice_index}
 use Rattle.scmi_codec.specs.Listing.{power_rows}
 use Rattle.scmi_codec.specs.declared.messages.Part.{Part}
@@ -10,7 +11,8 @@ use Rattle.scmi_agent.specs.declared.power_reply.PowerReply.TheVariants as power
 abbrev pub power_readings : List (List Part → List ℕ → Option PowerReply)
 power_readings =
     exactly (λ w. power.Version (slice_index w 0))
-    ∷ exactly (λ w. power.Attributes (slice_index w 0) (slice_index w 1 ∷ slice_index w 2 ∷ slice_index w 3 ∷ []))
+    ∷ exactly (λ w. power.Attributes (slice_index w 0)
+    (slice_index w 1 ∷ slice_index w 2 ∷ slice_index w 3 ∷ []))
     ∷ exactly (λ w. power.MessageAttributes (slice_index w 0))
     ∷ exactly (λ w. power.DomainAttributes (slice_index w 0) (name_at 1 w))
     ∷ exactly (λ w. power.Set)

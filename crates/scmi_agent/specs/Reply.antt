@@ -26,11 +26,14 @@ abbrev pub or_wrong_words : {C : Type 0} → Option C → Result C ReadError
 or_wrong_words (Some x) = Ok x
 or_wrong_words None = Err WrongWords
 
--- what words behind a status say: those behind SUCCESS by one reading, and behind any other there are none
-abbrev pub said_behind : {C : Type 0} → (List ℕ → Option C) → (Status → C) → Option Status → List ℕ → Result C ReadError
+-- what words behind a status say: those behind SUCCESS by one reading, and behind any other there
+-- are none
+abbrev pub said_behind : {C : Type 0} → (List ℕ → Option C) → (Status → C) → Option Status → List ℕ
+    → Result C ReadError
 said_behind read refused None words = Err UnknownStatus
 said_behind read refused (Some Success) words = or_wrong_words (read words)
-said_behind read refused (Some status) words = if length words == 0 then Ok (refused status) else Err WrongWords
+said_behind read refused (Some status) words = if length words == 0 then Ok (refused status)
+    else Err WrongWords
 
 -- what payload words say that begin with a status
 abbrev pub said_by : {C : Type 0} → (List ℕ → Option C) → (Status → C) → List ℕ → Result C ReadError

@@ -7,7 +7,10 @@ use Rattle.scmi_agent_c.specs.declared.state.State.{State}
 
 -- the agent that a state encodes
 abbrev pub agent_of : State → Agent
-agent_of s = record { next = s.next % TOKENS; posted = if s.posted == 0 then None else Some (header_of s.header) }
+agent_of s = record {
+  next = s.next % TOKENS;
+  posted = if s.posted == 0 then None else Some (header_of s.header);
+}
 
 -- the state of an agent whose outstanding command has this header
 abbrev pub state_at : ℕ → Option HeaderFields → State

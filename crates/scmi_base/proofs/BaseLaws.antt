@@ -1,4 +1,5 @@
--- What is so of each command of the base protocol: how long its reply is, and whose it is if it says what agents may do.
+-- What is so of each command of the base protocol: how long its reply is, and whose it is if it
+-- says what agents may do.
 use Rattle.std.proofs.Common.{◌≡◌, ◌≢◌, ℕ, ◌+◌, ◌/◌, ◌≤◌, ◌==◌, nat_lt, Bool, true, false, not, List, [], ◌∷◌, length, drop, None, refl, arith}
 use Rattle.std.proofs.lemmas.Bool.{eqb-true}
 use Rattle.std.proofs.lemmas.List.{length-take}
@@ -28,7 +29,8 @@ module _ (n : ℕ) (eight : 8 ≤ n) where
   unfolding base_reply
   within board a base.Version = omega (arith, eight)
   within board a base.Attributes = omega (arith, eight)
-  within board a (base.MessageAttributes message) = checked n one _ _ (0 ∷ 0 ∷ []) (omega (arith, eight))
+  within board a (base.MessageAttributes message) =
+      checked n one _ _ (0 ∷ 0 ∷ []) (omega (arith, eight))
   within board a base.Vendor = omega (arith, eight)
   within board a base.SubVendor = omega (arith, eight)
   within board a base.Implementation = omega (arith, eight)
@@ -37,15 +39,19 @@ module _ (n : ℕ) (eight : 8 ≤ n) where
       let few = few_ids rest in
       checked n one _ _ (0 ∷ length rest ∷ packed_words rest) (omega (arith, eight, few))
   within board a (base.Agent agent) =
-      checked n one _ _ (0 ∷ asked_for a agent ∷ name_words (agent_name board (asked_for a agent))) (omega (arith, eight))
-  within board a (base.Permit agent device flags) = by_checks n one (permit_checks board a agent device flags) (0 ∷ []) one
+      checked n one _ _ (0 ∷ asked_for a agent ∷ name_words (agent_name board (asked_for a agent)))
+      (omega (arith, eight))
+  within board a (base.Permit agent device flags) =
+      by_checks n one (permit_checks board a agent device flags) (0 ∷ []) one
   within board a (base.PermitProtocol agent device protocol flags) =
       by_checks n one (permit_protocol_checks board a agent device protocol flags) (0 ∷ []) one
-  within board a (base.ResetAgent agent flags) = by_checks n one (reset_checks board a agent flags) (0 ∷ []) one
+  within board a (base.ResetAgent agent flags) =
+      by_checks n one (reset_checks board a agent flags) (0 ∷ []) one
 
 -- what succeeded passed the check of the trusted agent
 permit-trusted : (c1 c2 c3 trusted : Bool)
-    → begins_with_success (reply_unless ((c1, NotFound) ∷ (c2, NotFound) ∷ (c3, InvalidParameters) ∷ (not trusted, Denied) ∷ []) (0 ∷ [])) ≡ true → trusted ≡ true
+    → begins_with_success (reply_unless ((c1, NotFound) ∷ (c2, NotFound) ∷ (c3, InvalidParameters)
+    ∷ (not trusted, Denied) ∷ []) (0 ∷ [])) ≡ true → trusted ≡ true
 permit-trusted c1 c2 c3 true ok = refl
 permit-trusted true c2 c3 false ok = absurd (cc)
 permit-trusted false true c3 false ok = absurd (cc)
@@ -53,7 +59,9 @@ permit-trusted false false true false ok = absurd (cc)
 permit-trusted false false false false ok = absurd (cc)
 
 protocol-trusted : (c1 c2 c3 c4 c5 trusted : Bool)
-    → begins_with_success (reply_unless ((c1, NotFound) ∷ (c2, NotFound) ∷ (c3, NotFound) ∷ (c4, InvalidParameters) ∷ (c5, InvalidParameters) ∷ (not trusted, Denied) ∷ []) (0 ∷ [])) ≡ true → trusted ≡ true
+    → begins_with_success (reply_unless ((c1, NotFound) ∷ (c2, NotFound) ∷ (c3, NotFound)
+    ∷ (c4, InvalidParameters) ∷ (c5, InvalidParameters) ∷ (not trusted, Denied) ∷ []) (0 ∷ []))
+    ≡ true → trusted ≡ true
 protocol-trusted c1 c2 c3 c4 c5 true ok = refl
 protocol-trusted true c2 c3 c4 c5 false ok = absurd (cc)
 protocol-trusted false true c3 c4 c5 false ok = absurd (cc)
@@ -62,14 +70,17 @@ protocol-trusted false false false true c5 false ok = absurd (cc)
 protocol-trusted false false false false true false ok = absurd (cc)
 protocol-trusted false false false false false false ok = absurd (cc)
 
-pub reset-trusted : (c1 c2 trusted : Bool) → begins_with_success (reply_unless ((c1, NotFound) ∷ (c2, InvalidParameters) ∷ (not trusted, Denied) ∷ []) (0 ∷ [])) ≡ true → trusted ≡ true
+pub reset-trusted : (c1 c2 trusted : Bool) → begins_with_success
+    (reply_unless ((c1, NotFound) ∷ (c2, InvalidParameters) ∷ (not trusted, Denied) ∷ []) (0 ∷ []))
+    ≡ true → trusted ≡ true
 reset-trusted c1 c2 true ok = refl
 reset-trusted true c2 false ok = absurd (cc)
 reset-trusted false true false ok = absurd (cc)
 reset-trusted false false false ok = absurd (cc)
 
 -- a success that says what an agent may do is the trusted agent's
-pub trusted : (board : Board) (a : ℕ) (c : BaseCommand) → begins_with_success (base_reply board a c) ≡ true
+pub trusted : (board : Board) (a : ℕ) (c : BaseCommand)
+    → begins_with_success (base_reply board a c) ≡ true
     → (x d : ℕ) (scope : Scope) → permission board x d scope c ≢ None → a ≡ board.trusted
 unfolding base_reply
 trusted board a base.Version ok x d scope some = absurd (some refl)
@@ -81,8 +92,12 @@ trusted board a base.Implementation ok x d scope some = absurd (some refl)
 trusted board a (base.Protocols skip) ok x d scope some = absurd (some refl)
 trusted board a (base.Agent agent) ok x d scope some = absurd (some refl)
 trusted board a (base.Permit agent device flags) ok x d scope some =
-    eqb-true a board.trusted (permit-trusted (no_agent board agent) (no_device board device) (other_bits flags) (a == board.trusted) ok)
+    eqb-true a board.trusted (permit-trusted (no_agent board agent) (no_device board device)
+    (other_bits flags) (a == board.trusted) ok)
 trusted board a (base.PermitProtocol agent device protocol flags) ok x d scope some =
-    eqb-true a board.trusted (protocol-trusted (no_agent board agent) (no_device board device) (no_protocol board protocol) (nat_lt 0xFF protocol) (other_bits flags) (a == board.trusted) ok)
+    eqb-true a board.trusted (protocol-trusted (no_agent board agent) (no_device board device)
+    (no_protocol board protocol) (nat_lt 0xFF protocol) (other_bits flags)
+    (a == board.trusted) ok)
 trusted board a (base.ResetAgent agent flags) ok x d scope some =
-    eqb-true a board.trusted (reset-trusted (no_agent board agent) (other_bits flags) (a == board.trusted) ok)
+    eqb-true a board.trusted
+    (reset-trusted (no_agent board agent) (other_bits flags) (a == board.trusted) ok)

@@ -30,11 +30,13 @@ asked_for caller agent = if agent == 0xFFFFFFFF then caller else agent
 
 -- the checks that only the trusted agent's flags pass (own)
 abbrev pub trusted_checks : Board → ℕ → ℕ → List Check
-trusted_checks board caller flags = (other_bits flags, InvalidParameters) ∷ (not (caller == board.trusted), Denied) ∷ []
+trusted_checks board caller flags =
+    (other_bits flags, InvalidParameters) ∷ (not (caller == board.trusted), Denied) ∷ []
 
 -- the checks of 0x9, in order (own)
 abbrev pub permit_checks : Board → ℕ → ℕ → ℕ → ℕ → List Check
-permit_checks board caller agent device flags = (no_agent board agent, NotFound) ∷ (no_device board device, NotFound) ∷ trusted_checks board caller flags
+permit_checks board caller agent device flags = (no_agent board agent, NotFound)
+    ∷ (no_device board device, NotFound) ∷ trusted_checks board caller flags
 
 -- the low eight bits of a word are the id of no protocol with resources that the board has
 abbrev pub no_protocol : Board → ℕ → Bool
@@ -44,12 +46,14 @@ no_protocol board word =
 -- the checks of 0xA, in order (own)
 abbrev pub permit_protocol_checks : Board → ℕ → ℕ → ℕ → ℕ → ℕ → List Check
 permit_protocol_checks board caller agent device protocol flags =
-    (no_agent board agent, NotFound) ∷ (no_device board device, NotFound) ∷ (no_protocol board protocol, NotFound)
+    (no_agent board agent, NotFound) ∷ (no_device board device, NotFound)
+    ∷ (no_protocol board protocol, NotFound)
     ∷ (nat_lt 0xFF protocol, InvalidParameters) ∷ trusted_checks board caller flags
 
 -- the checks of 0xB, in order (own)
 abbrev pub reset_checks : Board → ℕ → ℕ → ℕ → List Check
-reset_checks board caller agent flags = (no_agent board agent, NotFound) ∷ trusted_checks board caller flags
+reset_checks board caller agent flags =
+    (no_agent board agent, NotFound) ∷ trusted_checks board caller flags
 
 -- the reply to 0x2: an id of the protocol's table is supported, with no attributes
 abbrev pub message_reply : ℕ → List ℕ
@@ -65,18 +69,23 @@ protocols_reply ids skip =
 abbrev pub agent_reply : Board → ℕ → ℕ → List ℕ
 agent_reply board caller agent =
     let asked = asked_for caller agent in
-    reply_unless ((nat_lt (length board.agents) asked, NotFound) ∷ []) (0 ∷ asked ∷ name_words (agent_name board asked))
+    reply_unless ((nat_lt (length board.agents) asked, NotFound) ∷ [])
+    (0 ∷ asked ∷ name_words (agent_name board asked))
 
 -- the reply to a command of a caller (DEN0056B, base protocol)
 unfoldable pub base_reply : Board → ℕ → BaseCommand → List ℕ
 base_reply board caller base.Version = 0 ∷ 0x00020000 ∷ []
-base_reply board caller base.Attributes = 0 ∷ (length board.agents * 0x100 + length board.protocols) ∷ []
+base_reply board caller base.Attributes =
+    0 ∷ (length board.agents * 0x100 + length board.protocols) ∷ []
 base_reply board caller (base.MessageAttributes message) = message_reply message
 base_reply board caller base.Vendor = 0 ∷ name_words board.vendor
 base_reply board caller base.SubVendor = 0 ∷ name_words board.sub_vendor
 base_reply board caller base.Implementation = 0 ∷ board.version ∷ []
 base_reply board caller (base.Protocols skip) = protocols_reply board.protocols skip
 base_reply board caller (base.Agent agent) = agent_reply board caller agent
-base_reply board caller (base.Permit agent device flags) = reply_unless (permit_checks board caller agent device flags) (0 ∷ [])
-base_reply board caller (base.PermitProtocol agent device protocol flags) = reply_unless (permit_protocol_checks board caller agent device protocol flags) (0 ∷ [])
-base_reply board caller (base.ResetAgent agent flags) = reply_unless (reset_checks board caller agent flags) (0 ∷ [])
+base_reply board caller (base.Permit agent device flags) =
+    reply_unless (permit_checks board caller agent device flags) (0 ∷ [])
+base_reply board caller (base.PermitProtocol agent device protocol flags) =
+    reply_unless (permit_protocol_checks board caller agent device protocol flags) (0 ∷ [])
+base_reply board caller (base.ResetAgent agent flags) =
+    reply_unless (reset_checks board caller agent flags) (0 ∷ [])

@@ -1,4 +1,5 @@
--- One relation for the protocols that change domains or clocks, and the laws that each of them keeps.
+-- One relation for the protocols that change domains or clocks, and the laws that each of them
+-- keeps.
 use Rattle.std.specs.Prelude.{◌≡◌, ℕ, ◌<◌, ◌≤◌, ◌==◌, ◌&&◌, Bool, true, false, List, [], ◌∷◌, length, Option, Some, None}
 use Rattle.std.specs.Option.{option_or}
 use Rattle.scmi_codec.specs.Payload.{begins_with_success}
@@ -66,7 +67,8 @@ pub record IsProtocol {V C : Type 0} (p : Protocol V C) : Type 0 where
       → change_wanted p board c ≡ Some e → p.may v (resource_changed e) ≡ true
   -- it does not switch off what the board keeps
   pub kept : (board : Board) (v : V) (c : C) (e : Effect) → Succeeds p board v c
-      → change_wanted p board c ≡ Some e → (is_kept board (resource_changed e) && p.switches_off e) ≡ false
+      → change_wanted p board c ≡ Some e
+      → (is_kept board (resource_changed e) && p.switches_off e) ≡ false
   -- one that is accepted for later has room
   pub free : (board : Board) (v : V) (c : C) (e : Effect) → Succeeds p board v c
       → p.later board c ≡ Some e → p.room v ≡ true

@@ -28,7 +28,8 @@ pub(crate) fn version(reply: &mut Payload)
 /// 0x1: the number of agents in bits [15:8], the platform not counted (own), and the number of
 /// protocols in [7:0].
 pub(crate) fn attributes(plan: &Plan, reply: &mut Payload)
-    ensures { reply.new.items ≡ 0 ∷ (length plan.now.agents * 0x100 + length plan.now.protocols) ∷ [] }
+    ensures { reply.new.items
+        ≡ 0 ∷ (length plan.now.agents * 0x100 + length plan.now.protocols) ∷ [] }
 {
     set_payload(
         reply,

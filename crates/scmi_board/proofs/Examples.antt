@@ -47,19 +47,28 @@ last_line_lacks_its_end = refl
 
 one_way_channel
     : first_channel (items_left (codes "2 128 one-way"))
-    ≡ Some (record { agent = 2; channel = record { words = 25; one_way = true; share = 8 } }, record { items = []; whole = true })
+    ≡ Some (
+      record { agent = 2; channel = record { words = 25; one_way = true; share = 8 } },
+      record { items = []; whole = true },
+    )
 unfolding behind_spaces item_at items_up_to first_channel first_number first_options first_pending number_of
 one_way_channel = refl
 
 channel_of_a_share
     : first_channel (items_left (codes "1 60 pending 3"))
-    ≡ Some (record { agent = 1; channel = record { words = 8; one_way = false; share = 3 } }, record { items = []; whole = true })
+    ≡ Some (
+      record { agent = 1; channel = record { words = 8; one_way = false; share = 3 } },
+      record { items = []; whole = true },
+    )
 unfolding behind_spaces item_at items_up_to first_channel first_number first_options first_share number_of
 channel_of_a_share = refl
 
 one_way_channel_of_a_share
     : first_channel (items_left (codes "1 60 one-way pending 8"))
-    ≡ Some (record { agent = 1; channel = record { words = 8; one_way = true; share = 8 } }, record { items = []; whole = true })
+    ≡ Some (
+      record { agent = 1; channel = record { words = 8; one_way = true; share = 8 } },
+      record { items = []; whole = true },
+    )
 unfolding behind_spaces item_at items_up_to first_channel first_number first_options first_pending first_share number_of
 one_way_channel_of_a_share = refl
 
@@ -88,7 +97,13 @@ small =
       version = 1;
       trusted = 1;
       agents = codes "ap" ∷ codes "scp" ∷ [];
-      domains = record { name = codes "d0"; on = true; synchronous = true; asynchronous = false; notify = false } ∷ [];
+      domains = record {
+        name = codes "d0";
+        on = true;
+        synchronous = true;
+        asynchronous = false;
+        notify = false;
+      } ∷ [];
       clocks = clock (codes "c0") ∷ clock (codes "c1") ∷ [];
       devices = record { domains = 1; clocks = 1 } ∷ record { domains = 0; clocks = 2 } ∷ [];
       channels = replicate 8 whole_channel;
@@ -103,7 +118,8 @@ small =
     clock : List ℕ → Clock
     clock name = record { name = name; enabled = true; rate = 5; rates = rates.list (5 ∷ []) }
 
-kept_clock : with_line (small, []) (codes "keep clock 1") ≡ Some (small, said.Keep (resource.Clock 1) ∷ [])
+kept_clock : with_line (small, []) (codes "keep clock 1")
+    ≡ Some (small, said.Keep (resource.Clock 1) ∷ [])
 unfolding behind_spaces item_at items_up_to first_number first_resource number_of with_keep_line with_line
 kept_clock = refl
 
@@ -131,11 +147,13 @@ denied_device_of_no_row : with_line (small, []) (codes "deny 1 2") ≡ None
 unfolding behind_spaces item_at items_up_to first_denied first_number first_scope number_of with_deny_line with_line
 denied_device_of_no_row = refl
 
-absent_clock : with_line (small, []) (codes "absent clock 1") ≡ Some (small, said.Absent (resource.Clock 1) ∷ [])
+absent_clock : with_line (small, []) (codes "absent clock 1")
+    ≡ Some (small, said.Absent (resource.Clock 1) ∷ [])
 unfolding behind_spaces item_at items_up_to first_number first_resource number_of with_absent_line with_line
 absent_clock = refl
 
-absent_domain : with_line (small, []) (codes "absent domain 0") ≡ Some (small, said.Absent (resource.Domain 0) ∷ [])
+absent_domain : with_line (small, []) (codes "absent domain 0")
+    ≡ Some (small, said.Absent (resource.Domain 0) ∷ [])
 unfolding behind_spaces item_at items_up_to first_number first_resource number_of with_absent_line with_line
 absent_domain = refl
 
@@ -147,7 +165,8 @@ free_clock : with_line (small, []) (codes "free clock 1") ≡ Some (small, said.
 unfolding behind_spaces item_at items_up_to first_free first_number number_of with_free_line with_line
 free_clock = refl
 
-free_clock_twice : with_line (small, said.Free 1 ∷ []) (codes "free clock 1") ≡ Some (small, said.Free 1 ∷ said.Free 1 ∷ [])
+free_clock_twice : with_line (small, said.Free 1 ∷ []) (codes "free clock 1")
+    ≡ Some (small, said.Free 1 ∷ said.Free 1 ∷ [])
 unfolding behind_spaces item_at items_up_to first_free first_number number_of with_free_line with_line
 free_clock_twice = refl
 
@@ -177,7 +196,8 @@ unfolding behind_spaces item_at items_up_to first_protocols number_of with_id wi
 the_base_protocol = refl
 
 absent_clock_behind_a_free_one
-    : with_line (small, said.Free 1 ∷ []) (codes "absent clock 0") ≡ Some (small, said.Free 1 ∷ said.Absent (resource.Clock 0) ∷ [])
+    : with_line (small, said.Free 1 ∷ []) (codes "absent clock 0")
+    ≡ Some (small, said.Free 1 ∷ said.Absent (resource.Clock 0) ∷ [])
 unfolding behind_spaces item_at items_up_to first_number first_resource number_of with_absent_line with_line
 absent_clock_behind_a_free_one = refl
 
@@ -189,13 +209,21 @@ abbrev whole_line : ChannelLine
 whole_line = record { agent = 1; channel = whole_channel }
 
 channel_behind_other_lines
-    : with_line (small, said.Channel whole_line ∷ said.Keep (resource.Clock 1) ∷ said.Absent (resource.Clock 0) ∷ said.Free 1 ∷ []) (codes "channel 1 60")
+    : with_line (
+      small,
+      said.Channel whole_line ∷ said.Keep (resource.Clock 1)
+          ∷ said.Absent (resource.Clock 0) ∷ said.Free 1 ∷ [],
+    ) (codes "channel 1 60")
     ≡ None
 unfolding behind_spaces item_at items_up_to first_channel first_number first_options number_of with_channel_line with_line
 channel_behind_other_lines = refl
 
 channel_behind_a_free_clock
     : with_line (small, said.Free 1 ∷ []) (codes "channel 1 60")
-    ≡ Some (small, said.Free 1 ∷ said.Channel (record { agent = 1; channel = record { words = 8; one_way = false; share = 8 } }) ∷ [])
+    ≡ Some (
+      small,
+      said.Free 1 ∷ said.Channel
+          (record { agent = 1; channel = record { words = 8; one_way = false; share = 8 } }) ∷ [],
+    )
 unfolding behind_spaces item_at items_up_to first_channel first_number first_options number_of with_channel_line with_line
 channel_behind_a_free_clock = refl

@@ -8,10 +8,12 @@ use Rattle.std.proofs.lemmas.List.Sums.{prefix_len-le-length}
 pub place_within : (p : ℕ → Bool) (text : List ℕ) → position_or_len p text ≤ length text
 place_within p text = prefix_len-le-length _ text
 
-pub place_or_length : (p : ℕ → Bool) (text : List ℕ) → unwrap_or (position p text) (length text) ≡ position_or_len p text
+pub place_or_length : (p : ℕ → Bool) (text : List ℕ)
+    → unwrap_or (position p text) (length text) ≡ position_or_len p text
 place_or_length p text =
     let within = place_within p text in
     elim (cases_Bool (ltb (position_or_len p text) (length text))) [
       | inl here ↦ rw here refl
-      | inr past ↦ let most = ltb-false (position_or_len p text) (length text) past in rw past (omega (arith, within, most))
+      | inr past ↦ let most = ltb-false (position_or_len p text) (length text) past in
+          rw past (omega (arith, within, most))
     ]

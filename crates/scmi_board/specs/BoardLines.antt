@@ -1,5 +1,5 @@
--- A board with lines behind its rows: what channels its agents have, what is kept, what is denied, what is absent, which
--- clocks are free, what its protocols are (own).
+-- A board with lines behind its rows: what channels its agents have, what is kept, what is denied,
+-- what is absent, which clocks are free, what its protocols are (own).
 use Rattle.std.specs.Prelude.{ℕ, ◌<◌, ◌-◌, ◌/◌, ◌^◌, ◌==◌, ◌&&◌, ◌++◌, nat_le, nat_lt, Bool, true, false, if◌then◌else◌, List, [], ◌∷◌, length, Option, Some, None, Result}
 use Rattle.std.specs.List.{fold}
 use Rattle.std.specs.Str.{bytes_eq}
@@ -41,9 +41,11 @@ described raw = (asked_board raw.board, raw.lines.items)
 -- a line is of agents, devices, domains and clocks of the board, and a channel is one that an agent
 -- may have
 abbrev pub IsLineOf : Board → BoardLine → Type 0
-IsLineOf board (said.Channel line) = IsAgent (length board.agents) line.agent × IsChannel line.channel
+IsLineOf board (said.Channel line) = IsAgent (length board.agents) line.agent
+    × IsChannel line.channel
 IsLineOf board (said.Keep kept) = IsOnBoard board kept
-IsLineOf board (said.Deny line) = IsAgent (length board.agents) line.agent × (line.devices < 2 ^ length board.devices)
+IsLineOf board (said.Deny line) = IsAgent (length board.agents) line.agent
+    × (line.devices < 2 ^ length board.devices)
 IsLineOf board (said.Absent absent) = IsOnBoard board absent
 IsLineOf board (said.Free c) = c < length board.clocks
 IsLineOf board (said.Protocols row) = AreProtocols (ids_in row)
@@ -71,7 +73,8 @@ first_share view = do
 unfoldable pub first_pending : ItemsView → Option (ℕ × ItemsView)
 first_pending view = elim (no_item view) [
   | Some end ↦ Some (PENDING_SETS, view)
-  | None ↦ (first_item view >>= λ item. if bytes_eq item.0 PENDING.now then first_share item.1 else None)
+  | None ↦
+      (first_item view >>= λ item. if bytes_eq item.0 PENDING.now then first_share item.1 else None)
 ]
 
 -- [one-way] [pending N]: whether the platform can't send to the agent, and its share
@@ -79,8 +82,10 @@ unfoldable pub first_options : ItemsView → Option ((Bool × ℕ) × ItemsView)
 first_options view = elim (no_item view) [
   | Some end ↦ Some ((false, PENDING_SETS), view)
   | None ↦ (first_item view >>= λ item.
-      if bytes_eq item.0 ONE_WAY.now then (first_pending item.1 >>= λ share. Some ((true, share.0), share.1))
-      else if bytes_eq item.0 PENDING.now then (first_share item.1 >>= λ share. Some ((false, share.0), share.1))
+      if bytes_eq item.0 ONE_WAY.now
+      then (first_pending item.1 >>= λ share. Some ((true, share.0), share.1))
+      else if bytes_eq item.0 PENDING.now
+      then (first_share item.1 >>= λ share. Some ((false, share.0), share.1))
       else None)
 ]
 
@@ -91,7 +96,17 @@ first_channel view = do
   bytes ← first_number 32 agent.1
   options ← first_options bytes.1
   if is_channel_size bytes.0
-      then Some (record { agent = agent.0; channel = record { words = (bytes.0 - 0x1C) / 4; one_way = options.0.0; share = options.0.1 } }, options.1)
+      then Some (
+        record {
+          agent = agent.0;
+          channel = record {
+            words = (bytes.0 - 0x1C) / 4;
+            one_way = options.0.0;
+            share = options.0.1;
+          };
+        },
+        options.1,
+      )
       else None
 
 -- domain N or clock N, of the board
@@ -99,8 +114,10 @@ unfoldable pub first_resource : Board → ItemsView → Option (Resource × Item
 first_resource board view = do
   word ← first_item view
   number ← first_number 32 word.1
-  if bytes_eq word.0 DOMAIN.now && nat_lt number.0 (length board.domains) then Some (resource.Domain number.0, number.1)
-      else if bytes_eq word.0 CLOCK.now && nat_lt number.0 (length board.clocks) then Some (resource.Clock number.0, number.1)
+  if bytes_eq word.0 DOMAIN.now && nat_lt number.0 (length board.domains)
+      then Some (resource.Domain number.0, number.1)
+      else if bytes_eq word.0 CLOCK.now && nat_lt number.0 (length board.clocks)
+      then Some (resource.Clock number.0, number.1)
       else None
 
 -- clock N, of the board
@@ -108,7 +125,8 @@ unfoldable pub first_free : Board → ItemsView → Option (ℕ × ItemsView)
 first_free board view = do
   word ← first_item view
   number ← first_number 32 word.1
-  if bytes_eq word.0 CLOCK.now && nat_lt number.0 (length board.clocks) then Some (number.0, number.1) else None
+  if bytes_eq word.0 CLOCK.now && nat_lt number.0 (length board.clocks)
+      then Some (number.0, number.1) else None
 
 -- an id behind others, of which a board has at most so many
 unfoldable pub with_id : List ℕ → List ℕ → Option (List ℕ)
@@ -142,7 +160,8 @@ first_denied board view = do
   agent ← first_number 32 view
   device ← first_number 32 agent.1
   scope ← first_scope device.1
-  if (nat_le 1 agent.0 && nat_le agent.0 (length board.agents)) && (nat_lt device.0 DEVICES && nat_lt device.0 (length board.devices))
+  if (nat_le 1 agent.0 && nat_le agent.0 (length board.agents))
+      && (nat_lt device.0 DEVICES && nat_lt device.0 (length board.devices))
       then Some (record { agent = agent.0; devices = 2 ^ device.0; scope = scope.0 }, scope.1)
       else None
 
@@ -224,4 +243,5 @@ with_line so_far text = do
 
 -- the board and lines that are left up to `end`, and the lines behind it
 abbrev pub described_left : LinesView → Result (Described × List Line) ℕ
-described_left lines = behind_heading (λ board. (board, [])) with_line (last_number lines) (heading_left lines)
+described_left lines =
+    behind_heading (λ board. (board, [])) with_line (last_number lines) (heading_left lines)

@@ -19,8 +19,8 @@ behind_spaces text =
     let rest = drop (position_or_len (λ byte. not (is_space byte)) text) text in
     if (length rest == 0) && not (length text == 0) then None else Some rest
 
--- the first item of a text, and what is left after it and its spaces; none where the text is empty, a space
--- is first, or only spaces follow the item
+-- the first item of a text, and what is left after it and its spaces; none where the text is empty,
+-- a space is first, or only spaces follow the item
 unfoldable pub item_at : List ℕ → Option (List ℕ × List ℕ)
 item_at text =
     let item = before_first is_space text in
@@ -55,7 +55,8 @@ items_of text = let view = items_left text in if view.whole then Some view.items
 
 -- the first of the items that are left, and the others
 abbrev pub first_item : ItemsView → Option (List ℕ × ItemsView)
-first_item view = elim view.items [ [] ↦ None | item ∷ items ↦ Some (item, record { items = items; whole = view.whole }) ]
+first_item view = elim view.items
+    [ [] ↦ None | item ∷ items ↦ Some (item, record { items = items; whole = view.whole }) ]
 
 -- nothing where no item is left, and none where one is
 abbrev pub no_item : ItemsView → Option (Unit {0})

@@ -30,7 +30,8 @@ pub record Line : Type 0 where
 abbrev pub line_of : TextLine → Line
 line_of line = record { number = line.number; text = line.text.now }
 
--- the number of the line behind one of this number; the numbers stay at 2^32 - 1 once they are there
+-- the number of the line behind one of this number; the numbers stay at 2^32 - 1 once they are
+-- there
 abbrev pub number_behind : ℕ → ℕ
 number_behind number = min (number + 1) (2 ^ 32 - 1)
 
@@ -39,7 +40,8 @@ unfoldable pub lines_behind : ℕ → List (List ℕ) → List Line
 lines_behind number [] = []
 lines_behind number (text ∷ texts) =
     let others = lines_behind (number_behind number) texts in
-    if is_significant text then record { number = number_behind number; text = text } ∷ others else others
+    if is_significant text
+    then record { number = number_behind number; text = text } ∷ others else others
 
 -- the number of the last line, behind a line of this number
 unfoldable pub last_behind : ℕ → List (List ℕ) → ℕ

@@ -13,10 +13,12 @@ use Rattle.scmi_board.specs.Items.{◌>>=◌, ItemsView, first_item, first_numbe
 use Rattle.scmi_board.specs.Number.{number_of}
 use Rattle.scmi_board.specs.declared.words.TheConstants.{BOARD, AGENT, DOMAIN, CLOCK, DEVICE, ON, OFF, LIST, STEPS, NONE}
 
--- what each member of a list makes of a value, one after the other; none where one makes nothing of it
+-- what each member of a list makes of a value, one after the other; none where one makes nothing of
+-- it
 abbrev pub after_each : {A B : Type 0} → (A → B → Option A) → A → List B → Option A
 after_each step value [] = Some value
-after_each step value (member ∷ members) = step value member >>= λ next. after_each step next members
+after_each step value (member ∷ members) =
+    step value member >>= λ next. after_each step next members
 
 -- whether a byte is a comma
 abbrev pub is_comma : ℕ → Bool
@@ -41,19 +43,24 @@ first_name view = do
 unfoldable pub first_switch : ItemsView → Option (Bool × ItemsView)
 first_switch view = do
   item ← first_item view
-  if bytes_eq item.0 ON.now then Some (true, item.1) else if bytes_eq item.0 OFF.now then Some (false, item.1) else None
+  if bytes_eq item.0 ON.now then Some (true, item.1) else if bytes_eq item.0 OFF.now
+      then Some (false, item.1) else None
 
 -- `s`, `a` or `n`, which the domain does not have yet
 unfoldable pub with_kind : Domain → ℕ → Option Domain
 with_kind domain kind =
-    if kind == 115 then (if domain.synchronous then None else Some (record domain { synchronous = true }))
-    else if kind == 97 then (if domain.asynchronous then None else Some (record domain { asynchronous = true }))
-    else if kind == 110 then (if domain.notify then None else Some (record domain { notify = true }))
+    if kind == 115
+    then (if domain.synchronous then None else Some (record domain { synchronous = true }))
+    else if kind == 97
+    then (if domain.asynchronous then None else Some (record domain { asynchronous = true }))
+    else if kind == 110
+    then (if domain.notify then None else Some (record domain { notify = true }))
     else None
 
 -- `-`, or some of the kinds
 unfoldable pub with_kinds : Domain → List ℕ → Option Domain
-with_kinds domain kinds = if bytes_eq kinds NONE.now then Some domain else after_each with_kind domain kinds
+with_kinds domain kinds = if bytes_eq kinds NONE.now then Some domain
+    else after_each with_kind domain kinds
 
 -- NAME on|off KINDS
 unfoldable pub first_domain : ItemsView → Option (Domain × ItemsView)
@@ -61,7 +68,13 @@ first_domain view = do
   name ← first_name view
   on ← first_switch name.1
   kinds ← first_item on.1
-  domain ← with_kinds (record { name = name.0; on = on.0; synchronous = false; asynchronous = false; notify = false }) kinds.0
+  domain ← with_kinds (record {
+    name = name.0;
+    on = on.0;
+    synchronous = false;
+    asynchronous = false;
+    notify = false;
+  }) kinds.0
   Some (domain, kinds.1)
 
 -- a rate after others
@@ -89,7 +102,8 @@ first_steps view = do
 unfoldable pub first_rates : ItemsView → Option (SupportedRates × ItemsView)
 first_rates view = do
   word ← first_item view
-  if bytes_eq word.0 LIST.now then first_list word.1 else if bytes_eq word.0 STEPS.now then first_steps word.1 else None
+  if bytes_eq word.0 LIST.now then first_list word.1 else if bytes_eq word.0 STEPS.now
+      then first_steps word.1 else None
 
 -- NAME on|off RATE, and its rates
 unfoldable pub first_clock : ItemsView → Option (Clock × ItemsView)
@@ -168,7 +182,23 @@ bare_board view = do
   version ← first_number 32 sub_vendor.1
   trusted ← first_number 32 version.1
   end ← no_item trusted.1
-  Some (record { vendor = vendor.0; sub_vendor = sub_vendor.0; version = version.0; trusted = trusted.0; agents = []; domains = []; clocks = []; devices = []; channels = replicate AGENTS whole_channel; kept = nothing_held; denied = nothing_denied; absent = nothing_held; free = 0; protocols = own_protocols; loose = false })
+  Some (record {
+    vendor = vendor.0;
+    sub_vendor = sub_vendor.0;
+    version = version.0;
+    trusted = trusted.0;
+    agents = [];
+    domains = [];
+    clocks = [];
+    devices = [];
+    channels = replicate AGENTS whole_channel;
+    kept = nothing_held;
+    denied = nothing_denied;
+    absent = nothing_held;
+    free = 0;
+    protocols = own_protocols;
+    loose = false;
+  })
 
 -- board VENDOR SUBVENDOR VERSION TRUSTED; none where the line is no heading
 unfoldable pub heading_of : List ℕ → Option Board

@@ -17,7 +17,8 @@ abbrev pub said_alone : Described → Option ℕ → Result Described ℕ
 said_alone said None = Ok said
 said_alone said (Some number) = Err number
 
--- what is said by all lines of a text, of which none follows the line `end`; else the number of the first that is no line of a board, or follows it
+-- what is said by all lines of a text, of which none follows the line `end`; else the number of the
+-- first that is no line of a board, or follows it
 abbrev pub said_whole : Result (Described × List Line) ℕ → Result Described ℕ
 said_whole (Err number) = Err number
 said_whole (Ok found) = said_alone found.0 (first_number_in found.1)
@@ -48,7 +49,8 @@ pub record HasLineAfter (text : List ℕ) (line : ℕ) : Type 0 where
   pub said_is : described_left (whole text) ≡ Ok (said, behind)
   pub first : first_number_in behind ≡ Some line
 
--- why a text is no valid board: the number of its first line that is not one of a board, or that follows one, or the first rule that the board breaks. Out of memory shows nothing of the text
+-- why a text is no valid board: the number of its first line that is not one of a board, or that
+-- follows one, or the first rule that the board breaks. Out of memory shows nothing of the text
 abbrev pub IsBoardFault : List ℕ → BoardError → Type 0
 IsBoardFault text (error.Line line) = described_left (whole text) ≡ Err line
 IsBoardFault text (error.After line) = HasLineAfter text line

@@ -69,7 +69,8 @@ fn read_steps(items: &mut Items<'_>) -> Result<Rates, LineError>
 
 /// Rates with single commas between them.
 fn read_parts(alloc: Global, text: &[u8]) -> Result<Vec<u64>, LineError>
-    ensures { GivesUnless (λ rates. rates.items) result (after_each with_rate [] (parts_of text.now)) }
+    ensures { GivesUnless (λ rates. rates.items) result
+        (after_each with_rate [] (parts_of text.now)) }
 {
     let mut rates = Vec::new(alloc);
     for part in text.split(|byte| *byte == b',') {

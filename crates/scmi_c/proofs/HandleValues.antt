@@ -38,34 +38,51 @@ abbrev pub Good : Ty → Val → Type 0
 Good τ v = T (has_ty τ v) × WT v
 
 -- who owns the box may compare its pointer with null
-tested : {M : Type 1} {𝓤 : Ura M} (𝓛 : Logic 𝓤) (a : Global) (p : Ptr) (x : (platform.the_row).Denot)
-    → ent 𝓤 (sem 𝓛 (box_owns chunk platform.the_row p x)) (guard 𝓤 (Testable p) (sem 𝓛 (box_owns chunk platform.the_row p x)))
+tested : {M : Type 1} {𝓤 : Ura M} (𝓛 : Logic 𝓤) (a : Global) (p : Ptr)
+    (x : (platform.the_row).Denot)
+    → ent 𝓤 (sem 𝓛 (box_owns chunk platform.the_row p x))
+    (guard 𝓤 (Testable p) (sem 𝓛 (box_owns chunk platform.the_row p x)))
 tested {𝓤 = 𝓤} 𝓛 a p x =
     let R : RattleType = platform.the_row in
     fact_use 𝓤 (Testable p)
-    (via 𝓤 _ (snd∗ 𝓤 (sem 𝓛 (lies_at R full_share p x)) (sem 𝓛 (chunk (bare (lone R.mir)) p))) (dealloc_token-Testable 𝓛 a (bare (lone R.mir)) p))
+    (via 𝓤 _ (snd∗ 𝓤 (sem 𝓛 (lies_at R full_share p x)) (sem 𝓛 (chunk (bare (lone R.mir)) p)))
+    (dealloc_token-Testable 𝓛 a (bare (lone R.mir)) p))
     (guard_i 𝓤 (Testable p) (sem 𝓛 (box_owns chunk R p x)))
 
-module _ {M : Type 1} {𝓤 : Ura M} {𝓛 : Logic 𝓤} {K : Type 0} {Γ : List (Item 𝓤)} {G : Goal 𝓤 𝓛.H} where
+module _ {M : Type 1} {𝓤 : Ura M} {𝓛 : Logic 𝓤} {K : Type 0} {Γ : List (Item 𝓤)}
+    {G : Goal 𝓤 𝓛.H} where
   pub handle_in : K → (p : Ptr) (x : Option (platform.the_row).Denot)
-      → Step K 𝓛 (‵ ((handle.the_row).own_val (record { at = p; value = x }) (word p ∷ [])) ∷ Γ) G (‵ (holds_value ghosts.dealloc_token platform.the_row p x) ∷ Γ) G
+      → Step K 𝓛 (‵ ((handle.the_row).own_val (record { at = p; value = x }) (word p ∷ [])) ∷ Γ) G
+      (‵ (holds_value ghosts.dealloc_token platform.the_row p x) ∷ Γ) G
   handle_in t p x = step (λ s.
-      nothing t $ feq_i t (List Val) (ptr_val p ∷ []) (ptr_val p ∷ []) refl $ fjoin t $ feq_i t (List Val) (word p ∷ []) (word p ∷ []) refl $ fjoin t $
-      fpack t (Valss (RawPtr ∷ [])) (within (shape handle.the_type) (p, tt) (word p ∷ [])) (ptr_val p ∷ [], tt) $ fjoin t $ s)
+      nothing t $ feq_i t (List Val) (ptr_val p ∷ []) (ptr_val p ∷ []) refl $ fjoin t $ feq_i t
+      (List Val) (word p ∷ []) (word p ∷ []) refl $ fjoin t $
+      fpack t (Valss (RawPtr ∷ [])) (within (shape handle.the_type) (p, tt) (word p ∷ []))
+      (ptr_val p ∷ [], tt) $ fjoin t $ s)
 
   pub handle_in_some : K → (a : Global) (p : Ptr) (x : (platform.the_row).Denot)
-      → Step K 𝓛 (‵ ((handle.the_row).own_val (record { at = p; value = Some x }) (word p ∷ [])) ∷ Γ) G (‵ (box_owns (ghosts.dealloc_token a) platform.the_row p x) ∷ Γ) G
-  handle_in_some t a p x = step (λ s. fpack t Global (λ heap. box_owns (ghosts.dealloc_token heap) platform.the_row p x) a $ handle_in t p (Some x) $ s)
+      → Step K 𝓛 (‵ ((handle.the_row).own_val (record { at = p; value = Some x }) (word p ∷ []))
+      ∷ Γ) G (‵ (box_owns (ghosts.dealloc_token a) platform.the_row p x) ∷ Γ) G
+  handle_in_some t a p x = step (λ s. fpack t Global (λ heap. box_owns
+      (ghosts.dealloc_token heap) platform.the_row p x) a $ handle_in t p (Some x) $ s)
 
   pub handle_open : K → (a : Global) (p : Ptr) (m : Option (platform.the_row).Denot) (vs : List Val)
       → (m ≡ None → vs ≡ word null_ptr ∷ [] → Seq K 𝓛 Γ G)
-      → ((b o : ℕ) (x : (platform.the_row).Denot) → m ≡ Some x → vs ≡ word (block_ptr b o) ∷ [] → Testable (block_ptr b o) → Seq K 𝓛 (‵ (box_owns chunk platform.the_row (block_ptr b o) x) ∷ Γ) G)
+      → ((b o : ℕ) (x : (platform.the_row).Denot)
+      → m ≡ Some x → vs ≡ word (block_ptr b o) ∷ [] → Testable (block_ptr b o)
+      → Seq K 𝓛 (‵ (box_owns chunk platform.the_row (block_ptr b o) x) ∷ Γ) G)
       → Seq K 𝓛 (‵ ((handle.the_row).own_val (record { at = p; value = m }) vs) ∷ Γ) G
   handle_open t a p None vs none one =
-      fsplit t $ fpick t (λ vss. fsplit t $ feq_l t (λ ev. fsplit t $ feq_l t (λ ep. drop t $ fpick t (λ e. drop t $ none refl
-      (subst (λ (p' : Ptr). vs ≡ word p' ∷ []) e (subst (λ (ps : List Val). vs ≡ vstruct (of_list (ps ++ [])) ∷ []) ep ev))))))
+      fsplit t $ fpick t (λ vss. fsplit t $ feq_l t
+      (λ ev. fsplit t $ feq_l t (λ ep. drop t $ fpick t (λ e. drop t $ none refl
+      (subst (λ (p' : Ptr). vs ≡ word p' ∷ []) e
+      (subst (λ (ps : List Val). vs ≡ vstruct (of_list (ps ++ [])) ∷ []) ep ev))))))
   handle_open t a p (Some x) vs none one =
       fsplit t $ fpick t (λ vss. fsplit t $ feq_l t (λ ev. fsplit t $ feq_l t (λ ep. drop t $
-      fpick t (λ _. in_a_block t p (λ p'. box_owns chunk platform.the_row p' x) (fst∗ 𝓤 (never 𝓤) (sem 𝓛 (chunk (bare (lone (platform.the_row).mir)) null_ptr))) (λ b o e.
-      use1 𝓛 (given (Testable (block_ptr b o)) (‵ (box_owns chunk platform.the_row (block_ptr b o) x))) (tested 𝓛 a (block_ptr b o) x) $ learn t (λ is. one b o x refl
-      (subst (λ (p' : Ptr). vs ≡ word p' ∷ []) e (subst (λ (ps : List Val). vs ≡ vstruct (of_list (ps ++ [])) ∷ []) ep ev)) is))))))
+      fpick t (λ _. in_a_block t p (λ p'. box_owns chunk platform.the_row p' x)
+      (fst∗ 𝓤 (never 𝓤) (sem 𝓛 (chunk (bare (lone (platform.the_row).mir)) null_ptr))) (λ b o e.
+      use1 𝓛
+      (given (Testable (block_ptr b o)) (‵ (box_owns chunk platform.the_row (block_ptr b o) x)))
+      (tested 𝓛 a (block_ptr b o) x) $ learn t (λ is. one b o x refl
+      (subst (λ (p' : Ptr). vs ≡ word p' ∷ []) e
+      (subst (λ (ps : List Val). vs ≡ vstruct (of_list (ps ++ [])) ∷ []) ep ev)) is))))))

@@ -23,15 +23,23 @@ pub clock-known : (board : Board) (a : ℕ) (h : List Event) (frame : Frame) (cl
     → effect_after board h (Called a frame) ≡ Some (Rate clock rate) → clock < length board.clocks
 clock-known board a h (Good m) clock rate is = by (fits_channel board a m) is where
   by : (b : Bool)
-      → option_map effect_of (change_of board (success_of a m.header (command_on board m) (if b then reply_words board a (situation_after board a (deeds board h)) (command_on board m) else [])) None) ≡ Some (Rate clock rate)
+      → option_map effect_of
+      (change_of board (success_of a m.header (command_on board m) (if b then reply_words board
+      a (situation_after board a (deeds board h)) (command_on board m) else [])) None)
+      ≡ Some (Rate clock rate)
       → clock < length board.clocks
-  by true is = (makes board a m.header (situation_after board a (deeds board h)) (command_on board m) (Rate clock rate) is).known
+  by true is = (makes board a m.header (situation_after board a (deeds board h))
+      (command_on board m) (Rate clock rate) is).known
   by false is = absurd (let no : None ≡ Some (Rate clock rate) = is in cc)
-clock-known board a h (Malformed len header) clock rate is = absurd (let no : None ≡ Some (Rate clock rate) = is in cc)
+clock-known board a h (Malformed len header) clock rate is =
+    absurd (let no : None ≡ Some (Rate clock rate) = is in cc)
 
 -- the change of numbers that give a clock a rate
-pub rate-given : (effect : Effect) (change : EffectNumbers) → numbers_of effect ≡ change → IsRate change
+pub rate-given : (effect : Effect) (change : EffectNumbers) → numbers_of effect ≡ change
+    → IsRate change
     → (rate : ℕ) × (effect ≡ Rate change.id rate)
-rate-given (State domain state) change is kind = absurd (let no : 1 ≡ 2 = ap (λ (n : EffectNumbers). n.kind) is ∙ kind in cc)
+rate-given (State domain state) change is kind =
+    absurd (let no : 1 ≡ 2 = ap (λ (n : EffectNumbers). n.kind) is ∙ kind in cc)
 rate-given (Rate clock rate) change is kind = (rate, ap (λ (n : EffectNumbers). Rate n.id rate) is)
-rate-given (Enabled clock enabled) change is kind = absurd (let no : 3 ≡ 2 = ap (λ (n : EffectNumbers). n.kind) is ∙ kind in cc)
+rate-given (Enabled clock enabled) change is kind =
+    absurd (let no : 3 ≡ 2 = ap (λ (n : EffectNumbers). n.kind) is ∙ kind in cc)

@@ -17,12 +17,14 @@ use Rattle.scmi_c.specs.declared.effect.EffectNumbers.{EffectNumbers}
 use Rattle.scmi_c.specs.Kept.{Asked, IsAskable, IsUnasked, Kept, aside_of}
 use Rattle.scmi_c.specs.Standing.{Held, board_of}
 
--- whether a message is a base command that changes permissions: BASE_SET_DEVICE_PERMISSIONS, BASE_SET_PROTOCOL_PERMISSIONS or BASE_RESET_AGENT_CONFIGURATION
+-- whether a message is a base command that changes permissions: BASE_SET_DEVICE_PERMISSIONS,
+-- BASE_SET_PROTOCOL_PERMISSIONS or BASE_RESET_AGENT_CONFIGURATION
 abbrev pub is_permission : HeaderFields → Bool
-is_permission header = header.protocol == 0x10 && (header.id == 0x9 || header.id == 0xa || header.id == 0xb)
+is_permission header =
+    header.protocol == 0x10 && (header.id == 0x9 || header.id == 0xa || header.id == 0xb)
 
--- the domain or clock that a message sets, by its header and words, if it is a set, asynchronous or not: POWER_STATE_SET, CLOCK_RATE_SET or
--- CLOCK_CONFIG_SET; a word that it lacks counts as 0
+-- the domain or clock that a message sets, by its header and words, if it is a set, asynchronous or
+-- not: POWER_STATE_SET, CLOCK_RATE_SET or CLOCK_CONFIG_SET; a word that it lacks counts as 0
 abbrev pub set_of : Message → Option Resource
 set_of m = set_by m.header.protocol m.header.id m.payload.items where
   set_by : ℕ → ℕ → List ℕ → Option Resource
@@ -37,7 +39,8 @@ abbrev pub is_change_of : EffectNumbers → Resource → Bool
 is_change_of change (Domain d) = change.kind == 1 && change.id == d
 is_change_of change (Clock c) = not (change.kind == 1) && change.id == c
 
--- whether a message might change what becomes of a command with this change: it changes permissions, or sets the same domain or clock
+-- whether a message might change what becomes of a command with this change: it changes
+-- permissions, or sets the same domain or clock
 abbrev pub disturbs : Message → EffectNumbers → Bool
 disturbs m change = is_permission m.header || option_map_or (is_change_of change) (set_of m) false
 
@@ -48,20 +51,24 @@ Spares (Malformed len header) command = ⊤
 
 -- each command that may be committed and may fail, and that a frame spares, still may
 abbrev pub KeepsSpared : Frame → Held → Held → Type 0
-KeepsSpared frame p k = (command : Asked) → Spares frame command → IsAskable p command → IsAskable k command
+KeepsSpared frame p k = (command : Asked) → Spares frame command → IsAskable p command
+    → IsAskable k command
 
--- whether a message of an agent is held back while a command is set aside: it is of the same agent, or might change what becomes of the command
+-- whether a message of an agent is held back while a command is set aside: it is of the same agent,
+-- or might change what becomes of the command
 abbrev pub holds_back : Asked → ℕ → Message → Bool
 holds_back aside agent m = aside.agent == agent || disturbs m aside.change
 
 -- a frame of an agent is held back: it is a message that some command holds back which is set aside
 abbrev pub IsHeldBackBy : (ℕ → Option Asked) → ℕ → Frame → Type 0
-IsHeldBackBy aside agent (Good m) = (other : ℕ) × IsSomeAnd (aside other) (λ command. holds_back command agent m ≡ true)
+IsHeldBackBy aside agent (Good m) = (other : ℕ)
+    × IsSomeAnd (aside other) (λ command. holds_back command agent m ≡ true)
 IsHeldBackBy aside agent (Malformed len header) = ⊥
 
 -- the same of an agent of the board
 abbrev pub IsHeldBackAt : Held → (ℕ → Option Asked) → ℕ → Frame → Type 0
-IsHeldBackAt held aside agent frame = IsAgent (length (board_of held).agents) agent × IsHeldBackBy aside agent frame
+IsHeldBackAt held aside agent frame = IsAgent (length (board_of held).agents) agent
+    × IsHeldBackBy aside agent frame
 
 -- a frame of an agent of the board is held back by what is set aside
 abbrev pub IsHeldBack : Kept → ℕ → Frame → Type 0
@@ -97,7 +104,8 @@ with_aside command aside agent = if agent == command.agent then Some command els
 abbrev pub without_aside : ℕ → (ℕ → Option Asked) → ℕ → Option Asked
 without_aside gone aside agent = if agent == gone then None else aside agent
 
--- the command that waited is set aside, for an agent that had none set aside, and all else is as it was
+-- the command that waited is set aside, for an agent that had none set aside, and all else is as it
+-- was
 pub record IsSetAside (command : Asked) (p k : Kept) : Type 0 where
   pub held : k.held ≡ p.held
   pub unasked : IsUnasked k

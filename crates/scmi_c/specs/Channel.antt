@@ -19,16 +19,19 @@ HasSize agent bytes p = IsAgent (length (board_of p).agents) agent × (bytes ≡
 
 -- an agent of the board, and this many bytes are not the size of its areas
 abbrev pub HasAnotherSize : ℕ → ℕ → Held → Type 0
-HasAnotherSize agent bytes p = IsAgent (length (board_of p).agents) agent × (bytes ≢ bytes_of agent p)
+HasAnotherSize agent bytes p = IsAgent (length (board_of p).agents) agent
+    × (bytes ≢ bytes_of agent p)
 
 -- an area of its agent's channel, which is free
 abbrev pub IsFreeOf : ℕ → List ℕ → Held → Type 0
 IsFreeOf agent area p = HasSize agent (length area) p × (channel_waiting area ≡ None)
 
--- an area of this many bytes is whole, or has the size of its agent's channel: it has room for each reply to the agent
+-- an area of this many bytes is whole, or has the size of its agent's channel: it has room for each
+-- reply to the agent
 abbrev pub IsAreaOf : ℕ → ℕ → Held → Type 0
 IsAreaOf agent bytes p = (bytes ≡ AREA_BYTES) ⊎ HasSize agent bytes p
 
 -- a channel, as numbers for C
 abbrev pub numbers_of_channel : AgentChannel → ChannelNumbers
-numbers_of_channel channel = record { bytes = channel_bytes channel.words; one_way = bit_value channel.one_way }
+numbers_of_channel channel =
+    record { bytes = channel_bytes channel.words; one_way = bit_value channel.one_way }

@@ -14,16 +14,20 @@ use Rattle.scmi_c.specs.Effect.{numbers_of}
 use Rattle.scmi_c.specs.Standing.{Held, StandsAt, board_of}
 use Rattle.scmi_c.specs.declared.effect.EffectNumbers.{EffectNumbers}
 
--- what was said of the hardware is what belongs to a history: it made exactly the changes of the history, in order, each once, and refused exactly those that failed
+-- what was said of the hardware is what belongs to a history: it made exactly the changes of the
+-- history, in order, each once, and refused exactly those that failed
 abbrev pub IsDriven : Held → List Event → Type 0
 IsDriven p h = StandsAt p h × (p.said ≡ asks (board_of p) h)
 
--- at one more event what belongs to it was said, and nothing else; so a platform that was driven is driven
+-- at one more event what belongs to it was said, and nothing else; so a platform that was driven is
+-- driven
 pub record Drives (p k : Held) (event : Event) : Type 0 where
-  pub said : (h : List Event) → StandsAt p h → k.said ≡ and_asked p.said (ask_after (board_of p) h event)
+  pub said : (h : List Event) → StandsAt p h
+      → k.said ≡ and_asked p.said (ask_after (board_of p) h event)
   pub driven : (h : List Event) → IsDriven p h → IsDriven k (h ++ event ∷ [])
 
--- two events have happened to a platform, the second to what the first left, and at each what belongs to it was said, and nothing else
+-- two events have happened to a platform, the second to what the first left, and at each what
+-- belongs to it was said, and nothing else
 pub record HappenInTurn (p k : Held) (first second : Event) : Type 0 where
   pub between : Held
   pub happened : HasHappened p between first
@@ -31,10 +35,12 @@ pub record HappenInTurn (p k : Held) (first second : Event) : Type 0 where
   pub happened_then : HasHappened between k second
   pub drives_then : Drives between k second
 
--- a command was executed, and nothing was said; so a platform that was driven is driven if the command changes no hardware
+-- a command was executed, and nothing was said; so a platform that was driven is driven if the
+-- command changes no hardware
 pub record IsUnsaid (p k : Held) (agent : ℕ) (frame : Frame) : Type 0 where
   pub said : k.said ≡ p.said
-  pub driven : (h : List Event) → IsDriven p h → effect_after (board_of p) h (Called agent frame) ≡ None → IsDriven k (h ++ Called agent frame ∷ [])
+  pub driven : (h : List Event) → IsDriven p h → effect_after (board_of p) h (Called agent frame)
+      ≡ None → IsDriven k (h ++ Called agent frame ∷ [])
 
 -- the change of these numbers was said, that it was made or that it was refused, and nothing else
 pub record Says (ask : Effect → Asked) (change : EffectNumbers) (p k : Held) : Type 0 where
@@ -57,7 +63,8 @@ failure_after board h _ = None
 -- what failed of events that come after others, in order
 abbrev pub failures_from : Board → List Event → List Event → List Effect
 failures_from board before [] = []
-failures_from board before (event ∷ after) = option_to_list (failure_after board before event) ++ failures_from board (before ++ event ∷ []) after
+failures_from board before (event ∷ after) = option_to_list (failure_after board before event)
+    ++ failures_from board (before ++ event ∷ []) after
 
 -- what failed in a history, in order
 abbrev pub failures : Board → List Event → List Effect

@@ -1,4 +1,5 @@
--- What a handle keeps: a platform, the command that it was asked about, which is to be committed or to fail, and the commands that are set aside.
+-- What a handle keeps: a platform, the command that it was asked about, which is to be committed or
+-- to fail, and the commands that are set aside.
 use Rattle.std.specs.Prelude.{◌≡◌, ◌≢◌, ◌⊎◌, ℕ, zero, suc, ◌≤◌, Bool, List, length, slice_get, true, if◌then◌else◌, Option, Some, None, IfSome, IsSomeAnd}
 use Rattle.scmi_codec.specs.ChannelArea.{channel_words, is_channel_size}
 use Rattle.scmi_codec.specs.declared.frame.Frame.{Frame}
@@ -16,7 +17,8 @@ use Rattle.scmi_c.specs.declared.effect.EffectNumbers.{EffectNumbers}
 use Rattle.scmi_c.specs.Effect.{numbers_of}
 use Rattle.scmi_c.specs.Standing.{Held, StandsAt, board_of}
 
--- a command that was asked about: its agent, its frame as it was read, the bytes of its area, and the change of the hardware that was given for it
+-- a command that was asked about: its agent, its frame as it was read, the bytes of its area, and
+-- the change of the hardware that was given for it
 pub record Asked : Type 0 where
   pub agent : ℕ
   pub frame : Frame
@@ -27,7 +29,16 @@ pub record Asked : Type 0 where
 abbrev pub command_if : Bool → ℕ → Slot → Option Asked
 command_if is_used agent slot =
     if is_used
-    then Some (record { agent = agent; frame = Good (record { header = slot.header; payload = record { items = slot.words.items } }); bytes = slot.bytes; change = slot.change })
+    then Some (record {
+      agent = agent;
+      frame = Good (record {
+        header = slot.header;
+        payload =
+            record { items = slot.words.items };
+      });
+      bytes = slot.bytes;
+      change = slot.change;
+    })
     else None
 
 abbrev pub command_in : ℕ → Slot → Option Asked
@@ -42,7 +53,8 @@ abbrev pub aside_by : List Slot → ℕ → Option Asked
 aside_by slots zero = None
 aside_by slots (suc place) = command_at (suc place) (slice_get slots place)
 
--- a platform, the command that it was asked about, if there is one, and the places of the commands that are set aside
+-- a platform, the command that it was asked about, if there is one, and the places of the commands
+-- that are set aside
 pub record Kept : Type 0 where
   pub held : Held
   pub asked : Option Asked
@@ -91,19 +103,22 @@ HasSameAside old new = IfSome old (λ p. IsSomeAnd new (λ k. k.aside ≡ p.asid
 
 -- the command that waits, with the frame that was read
 abbrev pub asked_of : Frame → Waiting → Asked
-asked_of frame waiting = record { agent = waiting.agent; frame = frame; bytes = waiting.bytes; change = waiting.change }
+asked_of frame waiting =
+    record { agent = waiting.agent; frame = frame; bytes = waiting.bytes; change = waiting.change }
 
 -- the same, if one waits
 abbrev pub asked_by : Frame → Waiting → Option Asked
 asked_by frame waiting = if waiting.is_asked then Some (asked_of frame waiting) else None
 
--- a command may be committed and may fail: it is of an agent of the board and is to make the change that was given, and its area has room for its answer
+-- a command may be committed and may fail: it is of an agent of the board and is to make the change
+-- that was given, and its area has room for its answer
 pub record IsAskable (held : Held) (asked : Asked) : Type 0 where
   pub agent : IsAgent (length (board_of held).agents) asked.agent
   pub valid : IsValid (board_of held)
   pub change : Effect
   pub given : numbers_of change ≡ asked.change
-  pub effect : (h : List Event) → StandsAt held h → effect_after (board_of held) h (Called asked.agent asked.frame) ≡ Some change
+  pub effect : (h : List Event) → StandsAt held h
+      → effect_after (board_of held) h (Called asked.agent asked.frame) ≡ Some change
   pub size : is_channel_size asked.bytes ≡ true
   pub words : (channel_of (board_of held) asked.agent).words ≤ channel_words asked.bytes
 
@@ -115,7 +130,8 @@ KeepsAskable p k = (command : Asked) → IsAskable p command → IsAskable k com
 abbrev pub AreAskable : Held → (ℕ → Option Asked) → Type 0
 AreAskable held aside = (agent : ℕ) → IfSome (aside agent) (IsAskable held)
 
--- what waits and what is set aside may be committed and may fail, and what waits is of an agent that has nothing set aside
+-- what waits and what is set aside may be committed and may fail, and what waits is of an agent
+-- that has nothing set aside
 pub record IsKept (held : Held) (waits : Option Asked) (others : ℕ → Option Asked) : Type 0 where
   pub asked : IfSome waits (IsAskable held)
   pub aside : AreAskable held others
@@ -124,5 +140,6 @@ pub record IsKept (held : Held) (waits : Option Asked) (others : ℕ → Option 
 -- a platform was asked about a frame in an area of this many bytes, gave a change, and is as before
 pub record HasAsked (p : Held) (k : Kept) (agent : ℕ) (frame : Frame) (bytes : ℕ) : Type 0 where
   pub change : EffectNumbers
-  pub asked : k.asked ≡ Some (record { agent = agent; frame = frame; bytes = bytes; change = change })
+  pub asked : k.asked
+      ≡ Some (record { agent = agent; frame = frame; bytes = bytes; change = change })
   pub same : k.held ≡ p

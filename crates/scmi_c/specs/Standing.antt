@@ -6,7 +6,8 @@ use Rattle.scmi_core.specs.Asked.{Asked}
 use Rattle.scmi_core.specs.Standing.{Standing, StandsAfter}
 use Rattle.scmi_core.specs.declared.event.Event.{Event}
 
--- a platform, the number of its events if they are counted, and what the program has said of the hardware: each change that it made or refused, in order
+-- a platform, the number of its events if they are counted, and what the program has said of the
+-- hardware: each change that it made or refused, in order
 pub record Held : Type 0 where
   pub platform : Standing
   pub events : Option ℕ

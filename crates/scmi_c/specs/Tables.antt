@@ -38,13 +38,22 @@ pub record BoardTables : Type 0 where
   pub devices : List DeviceRow
 
 -- the tables of these rows
-abbrev pub tables_given : HeadingRow → List AgentRow → List DomainRow → List ClockRow → List ℕ → List DeviceRow → BoardTables
+abbrev pub tables_given : HeadingRow → List AgentRow → List DomainRow → List ClockRow → List ℕ
+    → List DeviceRow → BoardTables
 tables_given heading agents domains clocks rates devices =
-    record { heading = heading; agents = agents; domains = domains; clocks = clocks; rates = rates; devices = devices }
+    record {
+      heading = heading;
+      agents = agents;
+      domains = domains;
+      clocks = clocks;
+      rates = rates;
+      devices = devices;
+    }
 
 -- the tables that a program gave
 abbrev pub tables_of : Tables → BoardTables
-tables_of t = tables_given t.heading.now t.agents.now t.domains.now t.clocks.now t.rates.now t.devices.now
+tables_of t =
+    tables_given t.heading.now t.agents.now t.domains.now t.clocks.now t.rates.now t.devices.now
 
 -- whether a byte is zero
 abbrev pub is_zero : ℕ → Bool
@@ -52,7 +61,8 @@ is_zero byte = byte == 0
 
 -- whether a name is ended by a zero, has bytes of ASCII alone, and zeros behind the first
 abbrev pub is_named : List ℕ → Bool
-is_named name = list_any is_zero name && list_all (λ byte. nat_lt byte 128) name && list_all is_zero (drop (position_or_len is_zero name) name)
+is_named name = list_any is_zero name && list_all (λ byte. nat_lt byte 128) name
+    && list_all is_zero (drop (position_or_len is_zero name) name)
 
 -- the name: what comes before its zero
 abbrev pub name_in : List ℕ → List ℕ
@@ -87,7 +97,8 @@ is_mask_of devices mask = nat_lt mask (2 ^ devices)
 -- whether an agent is denied devices alone of which there are this many
 abbrev pub is_denied_row : ℕ → AgentRow → Bool
 is_denied_row devices row =
-    is_mask_of devices row.denied && is_mask_of devices row.denied_power && is_mask_of devices row.denied_clocks
+    is_mask_of devices row.denied && is_mask_of devices row.denied_power
+    && is_mask_of devices row.denied_clocks
 
 -- whether what a row says of an agent is so of an agent beside this many devices
 abbrev pub is_said_row : ℕ → AgentRow → Bool
@@ -118,22 +129,35 @@ is_set flag = not (flag == 0)
 -- the domain of a row
 abbrev pub domain_in : DomainRow → Domain
 domain_in row =
-    record { name = name_in row.name; on = is_set row.on; synchronous = is_set row.synchronous; asynchronous = is_set row.asynchronous; notify = is_set row.notify }
+    record {
+      name = name_in row.name;
+      on = is_set row.on;
+      synchronous = is_set row.synchronous;
+      asynchronous = is_set row.asynchronous;
+      notify = is_set row.notify;
+    }
 
 -- rows of the table of rates, or every step from the lowest to the highest
 abbrev pub rates_in : List ℕ → ClockRow → SupportedRates
-rates_in table row = if row.count == 0 then rates.steps row.low row.high row.step else rates.list (take row.count (drop row.first table))
+rates_in table row = if row.count == 0 then rates.steps row.low row.high row.step
+    else rates.list (take row.count (drop row.first table))
 
 -- the clock of a row
 abbrev pub clock_in : List ℕ → ClockRow → Clock
-clock_in table row = record { name = name_in row.name; enabled = is_set row.enabled; rate = row.rate; rates = rates_in table row }
+clock_in table row = record {
+  name = name_in row.name;
+  enabled = is_set row.enabled;
+  rate = row.rate;
+  rates = rates_in table row;
+}
 
 -- the device of a row
 abbrev pub device_in : DeviceRow → Device
 device_in row = record { domains = row.domains; clocks = row.clocks }
 
--- the board of well-formed tables, loose if their heading says so, with whole channels, of which nothing is kept or
--- denied, all is there, no clock is free, and the protocols are those of power domains and clocks
+-- the board of well-formed tables, loose if their heading says so, with whole channels, of which
+-- nothing is kept or denied, all is there, no clock is free, and the protocols are those of power
+-- domains and clocks
 abbrev pub board_in : BoardTables → Board
 board_in t =
     record {
@@ -161,7 +185,11 @@ share_in pending = if pending == 0 then PENDING_SETS else pending
 -- an agent's channels, which are whole if their bytes are 0
 abbrev pub channel_in : AgentRow → AgentChannel
 channel_in row =
-    record { words = if row.bytes == 0 then PAYLOAD_WORDS else channel_words row.bytes; one_way = is_set row.one_way; share = share_in row.pending }
+    record {
+      words = if row.bytes == 0 then PAYLOAD_WORDS else channel_words row.bytes;
+      one_way = is_set row.one_way;
+      share = share_in row.pending;
+    }
 
 -- what the heading says beside the board: its protocols, if there are any
 abbrev pub heading_lines : HeadingRow → List BoardLine
@@ -182,14 +210,17 @@ agent_lines agent row =
 abbrev pub said_if : ℕ → BoardLine → List BoardLine
 said_if flag line = if is_set flag then line ∷ [] else []
 
--- what the row of a domain says beside it: that no agent may switch it off, and that it is not there
+-- what the row of a domain says beside it: that no agent may switch it off, and that it is not
+-- there
 abbrev pub domain_lines : ℕ → DomainRow → List BoardLine
-domain_lines domain row = said_if row.kept (said.Keep (resource.Domain domain)) ++ said_if row.absent (said.Absent (resource.Domain domain))
+domain_lines domain row = said_if row.kept (said.Keep (resource.Domain domain))
+    ++ said_if row.absent (said.Absent (resource.Domain domain))
 
 -- what the row of a clock says beside it: the same, and that it takes each rate as it is asked for
 abbrev pub clock_lines : ℕ → ClockRow → List BoardLine
 clock_lines clock row =
-    said_if row.kept (said.Keep (resource.Clock clock)) ++ said_if row.absent (said.Absent (resource.Clock clock))
+    said_if row.kept (said.Keep (resource.Clock clock))
+    ++ said_if row.absent (said.Absent (resource.Clock clock))
     ++ said_if row.free (said.Free clock)
 
 -- the lines of each of these rows, of which the first has this number
@@ -197,7 +228,8 @@ abbrev pub lines_from : {Row : Type 0} → (ℕ → Row → List BoardLine) → 
 lines_from lines number [] = []
 lines_from lines number (row ∷ rows) = lines number row ++ lines_from lines (suc number) rows
 
--- what tables say beside their board: of each agent from 1, then of each domain and clock from 0, then of its protocols
+-- what tables say beside their board: of each agent from 1, then of each domain and clock from 0,
+-- then of its protocols
 abbrev pub lines_in : BoardTables → List BoardLine
 lines_in t =
     lines_from agent_lines 1 t.agents ++ lines_from domain_lines 0 t.domains
@@ -212,7 +244,8 @@ pub record HasRowsOf (old new : Board) : Type 0 where
 
 -- the board of tables with what they say beside it, or the number of its fault
 abbrev pub board_of_tables : BoardTables → Result Board ℕ
-board_of_tables t = if is_well_formed t then unless_fault (first_fault (board_in t)) (with_lines (board_in t) (lines_in t)) else Err TABLE
+board_of_tables t = if is_well_formed t then unless_fault (first_fault (board_in t))
+    (with_lines (board_in t) (lines_in t)) else Err TABLE
 
 -- out of memory, tables that are not well formed, or a rule of boards (1 to 5)
 abbrev pub IsTableFault : ℕ → Type 0

@@ -42,14 +42,16 @@ IsWritten ChannelError count before after = ⊥
 abbrev pub most_words : ℕ → Held → ℕ
 most_words agent p = 1 + (channel_of (board_of p) agent).words
 
--- an agent of the board; this many words are a message of its channel, and so many have room for each reply
+-- an agent of the board; this many words are a message of its channel, and so many have room for
+-- each reply
 pub record FitsWords (agent words room : ℕ) (p : Held) : Type 0 where
   pub is_agent : IsAgent (length (board_of p).agents) agent
   pub some : 1 ≤ words
   pub few : words ≤ most_words agent p
   pub enough : most_words agent p ≤ room
 
--- an agent of the board; this many words are none, or more than its channel has, or so many have not room for each reply
+-- an agent of the board; this many words are none, or more than its channel has, or so many have
+-- not room for each reply
 abbrev pub LacksWords : ℕ → ℕ → ℕ → Held → Type 0
 LacksWords agent words room p =
     IsAgent (length (board_of p).agents) agent
@@ -63,18 +65,24 @@ LacksRoom room asked = room < 1 + channel_words asked.bytes
 abbrev pub HasRoom : ℕ → Asked → Type 0
 HasRoom room asked = 1 + channel_words asked.bytes ≤ room
 
--- an agent's frame was executed, and the words are the definition's reply to it at its place in the history
-pub record HasAnsweredWords (p k : Held) (agent : ℕ) (frame : Frame) (count : ℕ) (before after : List ℕ) : Type 0 where
-  pub answer : (h : List Event) → StandsAt p h → IsWritten (answer_to (board_of p) agent frame h) count before after
+-- an agent's frame was executed, and the words are the definition's reply to it at its place in the
+-- history
+pub record HasAnsweredWords (p k : Held) (agent : ℕ) (frame : Frame) (count : ℕ)
+    (before after : List ℕ) : Type 0 where
+  pub answer : (h : List Event) → StandsAt p h
+      → IsWritten (answer_to (board_of p) agent frame h) count before after
   pub event : HasHappened p k (Called agent frame)
 
--- the same, and then a clock was reported to have a rate; the platform between is as the command left it
-pub record HasAnsweredWordsAtRate (p k : Held) (agent : ℕ) (frame : Frame) (clock rate count : ℕ) (before after : List ℕ) : Type 0 where
+-- the same, and then a clock was reported to have a rate; the platform between is as the command
+-- left it
+pub record HasAnsweredWordsAtRate (p k : Held) (agent : ℕ) (frame : Frame) (clock rate count : ℕ)
+    (before after : List ℕ) : Type 0 where
   pub between : Held
   pub answered : HasAnsweredWords p between agent frame count before after
   pub reported : HasHappened between k (Reported (Rate clock rate))
 
 -- an agent's frame failed with a fault, and the words are the reply to it, the status of the fault
-pub record HasFailedWords (p k : Held) (agent : ℕ) (frame : Frame) (fault : Fault) (count : ℕ) (before after : List ℕ) : Type 0 where
+pub record HasFailedWords (p k : Held) (agent : ℕ) (frame : Frame) (fault : Fault) (count : ℕ)
+    (before after : List ℕ) : Type 0 where
   pub answer : IsWritten (failed_answer frame fault) count before after
   pub event : HasHappened p k (CommandFailed agent frame fault)

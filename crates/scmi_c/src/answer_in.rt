@@ -70,7 +70,8 @@ pub extern "C" fn scmi_next_in(
         IsSomeAnd platform.old.value (λ p. HasPosted p.held agent area.old area.new) }
     ensures platform { platform.new.value ≡ platform.old.value }
     ensures no_platform { (result ≡ NO_PLATFORM) ↔ (platform.old.value ≡ None) }
-    ensures no_agent { (result ≡ NO_AGENT) ↔ IsSomeAnd platform.old.value (λ p. LacksAgent agent p.held) }
+    ensures no_agent { (result ≡ NO_AGENT)
+        ↔ IsSomeAnd platform.old.value (λ p. LacksAgent agent p.held) }
     ensures wrong_size { (result ≡ WRONG_SIZE) ↔
         IsSomeAnd platform.old.value (λ p. HasAnotherSize agent (length area.old) p.held) }
     ensures nothing { IfSome platform.old.value (λ p.

@@ -63,7 +63,8 @@ impl Held {
             (channel_words bytes ≡ (channel_of (board_of self.now) agent).words) }
         ensures valid { IsValid (board_of self.now) }
         ensures no_agent { (result ≡ Err Refusal.NoAgent) ↔ LacksAgent agent self.now }
-        ensures wrong_size { (result ≡ Err Refusal.WrongSize) ↔ HasAnotherSize agent bytes self.now }
+        ensures wrong_size { (result ≡ Err Refusal.WrongSize)
+            ↔ HasAnotherSize agent bytes self.now }
         ensures errors { IfErr result (λ e. (e ≡ Refusal.NoAgent) ⊎ (e ≡ Refusal.WrongSize)) }
     {
         let words = self.channel(agent)?.words;
@@ -89,7 +90,8 @@ pub extern "C" fn scmi_channel(
         channel.new ≡ numbers_of_channel (channel_of (board_of p.held) agent)) }
     ensures platform { platform.new.value ≡ platform.old.value }
     ensures no_platform { (result ≡ NO_PLATFORM) ↔ (platform.old.value ≡ None) }
-    ensures no_agent { (result ≡ NO_AGENT) ↔ IsSomeAnd platform.old.value (λ p. LacksAgent agent p.held) }
+    ensures no_agent { (result ≡ NO_AGENT)
+        ↔ IsSomeAnd platform.old.value (λ p. LacksAgent agent p.held) }
     ensures errors { (result ≡ DONE) ⊎ (result ≡ NO_AGENT) ⊎ (result ≡ NO_PLATFORM) }
     ensures kept { result ≢ DONE → channel.new ≡ channel.old }
 {

@@ -34,7 +34,8 @@ pub extern "C" fn scmi_next(
     ensures nothing { IfSome platform.old.value (λ p.
         (h : List Event) → StandsAt p.held h →
         (result ≡ NOTHING) ↔ LacksNext (board_of p.held) agent h) }
-    ensures no_agent { (result ≡ NO_AGENT) ↔ IsSomeAnd platform.old.value (λ p. LacksAgent agent p.held) }
+    ensures no_agent { (result ≡ NO_AGENT)
+        ↔ IsSomeAnd platform.old.value (λ p. LacksAgent agent p.held) }
     ensures not_free { IfSome platform.old.value (λ p.
         (h : List Event) → StandsAt p.held h →
         (result ≡ NOT_FREE) ↔

@@ -29,7 +29,8 @@ pub extern "C" fn scmi_pending(
     ensures done { result ≡ DONE →
         IsSomeAnd platform.old.value (λ p.
         (h : List Event) → StandsAt p.held h →
-        IsSomeAnd (slice_get (pending_sets (board_of p.held) (deeds (board_of p.held) h)) place) (λ set.
+        IsSomeAnd
+        (slice_get (pending_sets (board_of p.held) (deeds (board_of p.held) h)) place) (λ set.
         (agent.new ≡ set.agent) × (effect.new ≡ numbers_of (setting_effect set.setting)))) }
     ensures nothing { IfSome platform.old.value (λ p.
         (h : List Event) → StandsAt p.held h →
@@ -78,7 +79,8 @@ pub extern "C" fn scmi_outbox_length(
         messages.new ≡ length (outbox (board_of p.held) agent h)) }
     ensures platform { platform.new.value ≡ platform.old.value }
     ensures no_platform { (result ≡ NO_PLATFORM) ↔ (platform.old.value ≡ None) }
-    ensures no_agent { (result ≡ NO_AGENT) ↔ IsSomeAnd platform.old.value (λ p. LacksAgent agent p.held) }
+    ensures no_agent { (result ≡ NO_AGENT)
+        ↔ IsSomeAnd platform.old.value (λ p. LacksAgent agent p.held) }
     ensures errors { (result ≡ DONE) ⊎ (result ≡ NO_AGENT) ⊎ (result ≡ NO_PLATFORM) }
     ensures kept { result ≢ DONE → messages.new ≡ messages.old }
 {

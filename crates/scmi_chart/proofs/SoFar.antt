@@ -20,10 +20,15 @@ use Rattle.scmi_chart.specs.Shown.{Shown, shown_after, nothing_shown, none_later
 use Rattle.scmi_chart.specs.Run.{ShowsRun, ShowsStep}
 use Rattle.scmi_chart.proofs.Signs.{laters_through, laters_more, signs_more}
 
-module _ (full : Bool) (Shows : CallerView → Result Closing CloseError → Type 0) (board named : Board) where
+module _ (full : Bool) (Shows : CallerView → Result Closing CloseError → Type 0)
+    (board named : Board) where
   -- what a chart shows of the lines that these steps gave
   abbrev shown_of : List Step → List StepLine → Shown
-  shown_of steps lines = record { signs = run_signs none_later steps lines; laters = laters_through none_later steps lines; board = named }
+  shown_of steps lines = record {
+    signs = run_signs none_later steps lines;
+    laters = laters_through none_later steps lines;
+    board = named;
+  }
 
   -- this is what a chart shows of the lines that these steps gave
   pub record SoFar (steps : List Step) (session : SessionView) (shown : Shown) : Type 0 where
@@ -32,7 +37,8 @@ module _ (full : Bool) (Shows : CallerView → Result Closing CloseError → Typ
     pub follow : AreLinesOf steps lines
     pub shows : shown ≡ shown_of steps lines
 
-  pub no_step : (session : SessionView) (shown : Shown) → IsNewSession board session → shown ≡ nothing_shown named → SoFar [] session shown
+  pub no_step : (session : SessionView) (shown : Shown) → IsNewSession board session
+      → shown ≡ nothing_shown named → SoFar [] session shown
   no_step session shown new nothing = record {
     lines = [];
     made = runs_none full Shows board session new;
@@ -40,24 +46,45 @@ module _ (full : Bool) (Shows : CallerView → Result Closing CloseError → Typ
     shows = nothing;
   }
 
-  shown_more : (steps : List Step) (lines : List StepLine) (s : Step) (line : StepLine) → AreLinesOf steps lines → shown_after s line (shown_of steps lines) ≡ shown_of (steps ++ s ∷ []) (lines ++ line ∷ [])
+  shown_more : (steps : List Step) (lines : List StepLine) (s : Step) (line : StepLine)
+      → AreLinesOf steps lines
+      → shown_after s line (shown_of steps lines) ≡ shown_of (steps ++ s ∷ []) (lines ++ line ∷ [])
   shown_more steps lines s line all =
-      ap (λ ss. record { signs = ss; laters = laters_after (laters_through none_later steps lines) s line; board = named }) (sym (signs_more named none_later steps lines s line all))
-      ∙ ap (λ ls. record { signs = run_signs none_later (steps ++ s ∷ []) (lines ++ line ∷ []); laters = ls; board = named }) (sym (laters_more none_later steps lines s line all))
+      ap (λ ss. record {
+        signs = ss;
+        laters = laters_after (laters_through none_later steps lines) s
+            line;
+        board = named;
+      }) (sym (signs_more named none_later steps lines s line all))
+      ∙ ap (λ ls. record {
+        signs = run_signs none_later (steps ++ s ∷ []) (lines ++ line ∷ []);
+        laters = ls;
+        board = named;
+      }) (sym (laters_more none_later steps lines s line all))
 
-  pub step_more : (steps : List Step) (i : ℕ) (s : Step) (old new : SessionView) (before after : Shown) → i < length steps → s ≡ get_or steps i s → SoFar (take i steps) old before → ShowsStep full Shows s old new before after → SoFar (take (i + 1) steps) new after
+  pub step_more : (steps : List Step) (i : ℕ) (s : Step) (old new : SessionView)
+      (before after : Shown) → i < length steps → s ≡ get_or steps i s → SoFar (take i steps) old
+      before → ShowsStep full Shows s old new before after → SoFar (take (i + 1) steps) new after
   step_more steps i s old new before after below is so_far step =
-      let taken : take i steps ++ s ∷ [] ≡ take (i + 1) steps = ap (λ x. take i steps ++ x ∷ []) is ∙ sym (take_more steps i s below) in
+      let taken : take i steps ++ s ∷ [] ≡ take (i + 1) steps = ap (λ x. take i steps ++ x ∷ []) is
+      ∙ sym (take_more steps i s below) in
       subst (λ ts. SoFar ts new after) taken (record {
         lines = so_far.lines ++ step.line ∷ [];
-        made = runs_more full Shows board (take i steps) so_far.lines s step.line old new so_far.made step.made;
+        made = runs_more full Shows board
+            (take i steps) so_far.lines s step.line old new so_far.made step.made;
         follow = follow_more (take i steps) so_far.lines s step.line so_far.follow step.reported;
-        shows = step.shown ∙ ap (shown_after s step.line) so_far.shows ∙ shown_more (take i steps) so_far.lines s step.line so_far.follow;
+        shows = step.shown ∙ ap (shown_after s step.line) so_far.shows
+            ∙ shown_more (take i steps) so_far.lines s step.line so_far.follow;
       })
 
-  pub all_steps : (steps : List Step) (i : ℕ) (session : SessionView) (shown : Shown) (chart : Chart) → length steps ≤ i → SoFar (take i steps) session shown → map sign_of chart.marks.items ≡ shown.signs → map head_of chart.lifelines.items ≡ heads_from 1 shown.board.agents → ShowsRun full Shows board named steps chart
+  pub all_steps : (steps : List Step) (i : ℕ) (session : SessionView)
+      (shown : Shown) (chart : Chart) → length steps ≤ i → SoFar (take i steps) session shown
+      → map sign_of chart.marks.items ≡ shown.signs → map head_of chart.lifelines.items
+      ≡ heads_from 1 shown.board.agents → ShowsRun full Shows board named steps chart
   all_steps steps i session shown chart all so_far drawn heads =
-      let whole : SoFar steps session shown = subst (λ ts. SoFar ts session shown) (take_all i steps all) so_far in record {
+      let whole : SoFar steps session shown =
+      subst (λ ts. SoFar ts session shown) (take_all i steps all) so_far in
+      record {
         lines = whole.lines;
         last = session;
         made = whole.made;

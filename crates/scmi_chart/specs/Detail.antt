@@ -41,5 +41,6 @@ posted_detail token (Some m) = message_detail (record m { header = with_token to
 
 -- those of what a step posts with this token, if it is known
 abbrev pub step_detail : Step → Option ℕ → List ℕ
-step_detail (step.Agent a (agent_step.Malformed length header)) token = malformed_detail length header
+step_detail (step.Agent a (agent_step.Malformed length header)) token =
+    malformed_detail length header
 step_detail s token = posted_detail token (message_of s)

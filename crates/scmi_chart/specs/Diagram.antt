@@ -33,7 +33,8 @@ mark_text (mark.Failed slot text) = filled ADVANCE.now (shown_text text.items �
 mark_text (mark.Closed agent slot by text) = beside_text by agent text.items
 mark_text (mark.Remark agent slot beside text) = beside_text beside agent text.items
 mark_text (mark.Fault agent slot text) = filled BESIDE_PLATFORM.now (shown_text text.items ∷ [])
-mark_text (mark.Restarted agent slot text) = filled RESTARTED.now (decimal agent ∷ shown_text text.items ∷ [])
+mark_text (mark.Restarted agent slot text) =
+    filled RESTARTED.now (decimal agent ∷ shown_text text.items ∷ [])
 mark_text (mark.Execution slot until) = []
 mark_text (mark.Posted slot) = []
 

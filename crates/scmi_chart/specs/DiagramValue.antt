@@ -5,10 +5,12 @@ use Rattle.scmi_chart.specs.declared.diagram_value.TheConstants.{UNREAD}
 use Rattle.scmi_chart.specs.declared.diagram_value.DiagramValue.{DiagramValue}
 use Rattle.scmi_chart.specs.declared.diagram_value.DiagramValue.TheVariants.{Number, Outside, Words}
 
--- a byte of a text from outside: a sign for one that is not printable, or that Mermaid gives a meaning
+-- a byte of a text from outside: a sign for one that is not printable, or that Mermaid gives a
+-- meaning
 abbrev pub shown_byte : ℕ → ℕ
 shown_byte byte =
-    if byte == 35 || byte == 59 then UNREAD else if nat_le 32 byte && nat_le byte 126 then byte else UNREAD
+    if byte == 35 || byte == 59 then UNREAD else if nat_le 32 byte && nat_le byte 126
+    then byte else UNREAD
 
 -- a text from outside
 abbrev pub shown_text : List ℕ → List ℕ
@@ -22,7 +24,8 @@ part_text (byte ∷ bytes) = 32 ∷ shown_text (byte ∷ bytes)
 -- the words of a message
 unfoldable pub label_text : Label → List ℕ
 label_text l =
-    shown_text l.name.items ++ part_text l.object.items ++ part_text l.value.items ++ part_text l.tag.items
+    shown_text l.name.items ++ part_text l.object.items ++ part_text l.value.items
+    ++ part_text l.tag.items
 
 -- a value as it is written
 abbrev pub value_text : DiagramValue → List ℕ

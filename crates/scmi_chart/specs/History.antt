@@ -23,7 +23,8 @@ call_of m = record { protocol = m.header.protocol; message = m.header.id; payloa
 -- the steps of a malformed frame that was executed: it is posted, served and collected
 abbrev pub malformed_steps : ℕ → ℕ → ℕ → List Step
 malformed_steps a len header =
-    step.Agent a (agent_step.Malformed len header) ∷ step.Platform a platform_step.Serve ∷ step.Agent a agent_step.Collect ∷ []
+    step.Agent a (agent_step.Malformed len header) ∷ step.Platform a platform_step.Serve
+    ∷ step.Agent a agent_step.Collect ∷ []
 
 -- the steps of a command that was executed
 abbrev pub command_steps : ℕ → Frame → List Step
@@ -45,15 +46,19 @@ taken_by logs a = elim (slice_get logs (a - 1)) [ None ↦ 0 | Some log ↦ leng
 
 -- an agent takes a message, after these agents were sent one, if its log has as many
 abbrev pub taking_steps : List AgentLog → List ℕ → ℕ → List Step
-taking_steps logs sent a = if nat_lt (count_by (nat_eq a) sent) (taken_by logs a) then step.Agent a agent_step.P2a ∷ [] else []
+taking_steps logs sent a = if nat_lt (count_by (nat_eq a) sent) (taken_by logs a)
+    then step.Agent a agent_step.P2a ∷ [] else []
 
--- the steps of an event, after messages were posted to these agents: a command is posted, served and collected; an advance is one; a message that is posted is a flush, and the agent takes it if its log has it; the restart of an agent is one; a report of the hardware is one
+-- the steps of an event, after messages were posted to these agents: a command is posted, served
+-- and collected; an advance is one; a message that is posted is a flush, and the agent takes it if
+-- its log has it; the restart of an agent is one; a report of the hardware is one
 abbrev pub steps_of_event : List AgentLog → List ℕ → Event → List Step
 steps_of_event logs sent (event.Command a frame) = command_steps a frame
 steps_of_event logs sent (event.CommandFailed a frame fault) = refusal_steps a fault frame
 steps_of_event logs sent event.Advance = step.Advance ∷ []
 steps_of_event logs sent (event.AdvanceFailed fault) = step.AdvanceFailed fault ∷ []
-steps_of_event logs sent (event.Sent a) = step.Platform a platform_step.Flush ∷ taking_steps logs sent a
+steps_of_event logs sent (event.Sent a) =
+    step.Platform a platform_step.Flush ∷ taking_steps logs sent a
 steps_of_event logs sent (event.Restarted a) = step.Restart a ∷ []
 steps_of_event logs sent (event.Reported effect) = report_steps (report.Changed effect)
 steps_of_event logs sent (event.Promoted place) = report_steps (report.First place)
@@ -64,10 +69,12 @@ abbrev pub receivers : Event → List ℕ
 receivers (event.Sent a) = a ∷ []
 receivers _ = []
 
--- the steps of a history's later events, one after another, after messages were posted to these agents
+-- the steps of a history's later events, one after another, after messages were posted to these
+-- agents
 abbrev pub steps_after : List AgentLog → List ℕ → List Event → List Step
 steps_after logs sent [] = []
-steps_after logs sent (e ∷ events) = steps_of_event logs sent e ++ steps_after logs (sent ++ receivers e) events
+steps_after logs sent (e ∷ events) =
+    steps_of_event logs sent e ++ steps_after logs (sent ++ receivers e) events
 
 -- an agent with this log closes its endpoint if its script did
 abbrev pub closing_steps : ℕ → AgentLog → List Step
@@ -78,6 +85,7 @@ abbrev pub closes_from : ℕ → List AgentLog → List Step
 closes_from a [] = []
 closes_from a (log ∷ logs) = closing_steps a log ++ closes_from (a + 1) logs
 
--- the steps of a run: those of its history, in order, and then the closes of its agents, which a history does not have
+-- the steps of a run: those of its history, in order, and then the closes of its agents, which a
+-- history does not have
 abbrev pub steps_of_run : List Event → List AgentLog → List Step
 steps_of_run events logs = steps_after logs [] events ++ closes_from 1 logs

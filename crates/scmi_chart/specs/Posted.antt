@@ -11,7 +11,8 @@ use Rattle.scmi_text.specs.declared.step.AgentStep.TheVariants as agent_step
 
 -- the message of a call, with token 0
 abbrev pub message_of_call : Call → Message
-message_of_call call = record { header = protocol_header call.protocol 0 call.message; payload = call.payload }
+message_of_call call =
+    record { header = protocol_header call.protocol 0 call.message; payload = call.payload }
 
 -- the message that a step posts, its token aside
 abbrev pub message_of : Step → Option Message

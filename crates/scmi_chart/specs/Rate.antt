@@ -11,11 +11,15 @@ fraction_text t =
 
 -- this many thousandths of a unit
 unfoldable pub scaled_text : ℕ → List ℕ → List ℕ
-scaled_text thousandths unit = decimal (thousandths / 1000) ++ fraction_text (thousandths % 1000) ++ unit
+scaled_text thousandths unit =
+    decimal (thousandths / 1000) ++ fraction_text (thousandths % 1000) ++ unit
 
 -- a rate in the largest unit of which it has one or more and at most three digits after the point
 abbrev pub rate_text : ℕ → List ℕ
 rate_text hertz =
-    if nat_le 1000000000 hertz && (hertz % 1000000 == 0) then scaled_text (hertz / 1000000) GIGAHERTZ.now
-    else if nat_le 1000000 hertz && (hertz % 1000 == 0) then scaled_text (hertz / 1000) MEGAHERTZ.now
-    else if nat_le 1000 hertz && nat_lt hertz 1000000 then scaled_text hertz KILOHERTZ.now else decimal hertz ++ HERTZ.now
+    if nat_le 1000000000 hertz && (hertz % 1000000 == 0)
+    then scaled_text (hertz / 1000000) GIGAHERTZ.now
+    else if nat_le 1000000 hertz && (hertz % 1000 == 0)
+    then scaled_text (hertz / 1000) MEGAHERTZ.now
+    else if nat_le 1000 hertz && nat_lt hertz 1000000 then scaled_text hertz KILOHERTZ.now
+    else decimal hertz ++ HERTZ.now

@@ -42,7 +42,8 @@ abbrev pub if_got : ℕ → Collected → Option ℕ
 if_got a (collected.Got answer) = Some a
 if_got a _ = None
 
--- the lifeline of the agent whose command the platform executed in a step that came to this line, if it did
+-- the lifeline of the agent whose command the platform executed in a step that came to this line,
+-- if it did
 abbrev pub served_by : Step → StepLine → Option ℕ
 served_by s (line.Served a served) = if_done (lane a) served
 served_by (step.Do b call) (line.Collected a c) = if_got (lane a) c
@@ -84,12 +85,15 @@ message_sets_later (Some m) = is_asynchronous (command_of m)
 abbrev pub sets_later : Step → Bool
 sets_later s = message_sets_later (message_of s)
 
--- of each lifeline, whether the last command of its agent takes effect later, after a step that came to this line
+-- of each lifeline, whether the last command of its agent takes effect later, after a step that
+-- came to this line
 abbrev pub laters_after : List Bool → Step → StepLine → List Bool
 laters_after laters s (line.Token a token) = set laters (lane a) (sets_later s)
 laters_after laters s (line.Posted a) = set laters (lane a) (sets_later s)
-laters_after laters (step.Do b call) (line.Collected a c) = set laters (lane a) (sets_later (step.Do b call))
-laters_after laters (step.Fail b fault call) (line.Collected a c) = set laters (lane a) (sets_later (step.Fail b fault call))
+laters_after laters (step.Do b call) (line.Collected a c) =
+    set laters (lane a) (sets_later (step.Do b call))
+laters_after laters (step.Fail b fault call) (line.Collected a c) =
+    set laters (lane a) (sets_later (step.Fail b fault call))
 laters_after laters s l = laters
 
 -- the same of the agent that the line names

@@ -13,14 +13,17 @@ use Rattle.scmi_chart.specs.Service.{line_agent, if_got, served_by, is_served, s
 abbrev pub none_later : List Bool
 none_later = replicate LANES false
 
--- what is shown of a run of these steps on a board, which came to these lines, one for each: of each agent it is known whether its last command takes effect later
+-- what is shown of a run of these steps on a board, which came to these lines, one for each: of
+-- each agent it is known whether its last command takes effect later
 abbrev pub run_signs : List Bool → List Step → List StepLine → List Sign
 run_signs laters (s ∷ steps) (l ∷ lines) =
-    signs_of (is_some (served_by s l) || is_served (lane (line_agent l)) steps lines) (is_later laters s l) s l
+    signs_of (is_some (served_by s l) || is_served (lane (line_agent l)) steps lines)
+    (is_later laters s l) s l
     ++ run_signs (laters_after laters s l) steps lines
 run_signs laters _ _ = []
 
--- what a chart shows so far: what its marks show, and of each lifeline whether the last command of its agent takes effect later; the board
+-- what a chart shows so far: what its marks show, and of each lifeline whether the last command of
+-- its agent takes effect later; the board
 pub record Shown : Type 0 where
   pub signs : List Sign
   pub laters : List Bool
@@ -42,13 +45,16 @@ serves by signs shown = record shown { signs = served_so_far by shown.signs ++ s
 abbrev pub with_later : ℕ → Bool → Shown → Shown
 with_later a later shown = record shown { laters = set shown.laters a later }
 
--- a command that was posted, served and collected in one step, and what is shown of it between its execution and its answer
+-- a command that was posted, served and collected in one step, and what is shown of it between its
+-- execution and its answer
 abbrev pub exchanged : Step → ℕ → Collected → List Sign → Shown → Shown
 exchanged s a c between shown =
     with_later a (sets_later s) (serves (if_got a c)
-    (exchange_signs (is_some (if_got a c)) s a c ++ between ++ collected_signs a (get_or (set shown.laters a (sets_later s)) a false) c) shown)
+    (exchange_signs (is_some (if_got a c)) s a c ++ between
+    ++ collected_signs a (get_or (set shown.laters a (sets_later s)) a false) c) shown)
 
--- what a step adds that came to this line: its own marks, and that commands of the agent that was served in it are executed ones
+-- what a step adds that came to this line: its own marks, and that commands of the agent that was
+-- served in it are executed ones
 abbrev pub shown_after : Step → StepLine → Shown → Shown
 shown_after s l shown =
     record {
@@ -71,4 +77,5 @@ head_of lifeline = record { agent = lifeline.agent; name = lifeline.name.items }
 -- one lifeline for each name, in order, with the numbers from this one on
 abbrev pub heads_from : ℕ → List (List ℕ) → List Head
 heads_from agent [] = []
-heads_from agent (name ∷ names) = record { agent = lane agent; name = name } ∷ heads_from (agent + 1) names
+heads_from agent (name ∷ names) =
+    record { agent = lane agent; name = name } ∷ heads_from (agent + 1) names

@@ -32,7 +32,14 @@ use Rattle.scmi_chart.specs.declared.mark.Side.TheVariants as side
 use Rattle.scmi_chart.specs.declared.mark.Message.{Message as Arrow}
 use Rattle.scmi_chart.specs.Detail.{answer_detail, message_detail, step_detail}
 
--- what a mark shows, with the header and the words of its message in hexadecimal: whether a command that an agent posted was executed, with its token if it has one; a post was refused; the platform executed a command; the outcome of the answer to its command that an agent read; an agent took a delayed response or a notification; the platform posted a message; it was to complete a pending set, and whether there was one; it ended one whose change the hardware refused; an agent's command was answered with the status with which the hardware beside it refuses; channels were closed; an agent restarted; a step of an agent's came to nothing; or, of number 0, the hardware reported something, which the platform took over
+-- what a mark shows, with the header and the words of its message in hexadecimal: whether a command
+-- that an agent posted was executed, with its token if it has one; a post was refused; the platform
+-- executed a command; the outcome of the answer to its command that an agent read; an agent took a
+-- delayed response or a notification; the platform posted a message; it was to complete a pending
+-- set, and whether there was one; it ended one whose change the hardware refused; an agent's
+-- command was answered with the status with which the hardware beside it refuses; channels were
+-- closed; an agent restarted; a step of an agent's came to nothing; or, of number 0, the hardware
+-- reported something, which the platform took over
 pub data Sign : Type 0 where
   sent : Bool → ℕ → Option ℕ → List ℕ → Sign
   unsent : ℕ → List ℕ → Sign
@@ -88,9 +95,11 @@ abbrev pub is_success : Answer → Bool
 is_success (Reply m) = begins_with_success m.payload.items
 is_success _ = false
 
--- the outcome of an answer: a refusal, or a success, of a set that takes effect later or of another command
+-- the outcome of an answer: a refusal, or a success, of a set that takes effect later or of another
+-- command
 abbrev pub outcome_of : Answer → Bool → Outcome
-outcome_of answer later = if is_success answer then (if later then outcome.Pending else outcome.Success) else outcome.Refusal
+outcome_of answer later = if is_success answer
+    then (if later then outcome.Pending else outcome.Success) else outcome.Refusal
 
 -- whether words are the payload of a reply with the status of this fault
 abbrev pub begins_with_fault : Fault → List ℕ → Bool
@@ -114,14 +123,18 @@ sent_sign x s a token = sent x a token (step_detail s token)
 abbrev pub collected_signs : ℕ → Bool → Collected → List Sign
 collected_signs a later collected.Nothing = remarked a ∷ []
 collected_signs a later collected.Closed = remarked a ∷ []
-collected_signs a later (collected.Got answer) = answered_sign a answer (outcome_of answer later) ∷ []
+collected_signs a later (collected.Got answer) =
+    answered_sign a answer (outcome_of answer later) ∷ []
 
--- what is shown of an agent's command before it is collected in the same step: it was executed if it was answered
+-- what is shown of an agent's command before it is collected in the same step: it was executed if
+-- it was answered
 abbrev pub exchange_signs : Bool → Step → ℕ → Collected → List Sign
-exchange_signs x s a (collected.Got answer) = sent_sign x s a (reply_token (collected.Got answer)) ∷ executed ∷ []
+exchange_signs x s a (collected.Got answer) =
+    sent_sign x s a (reply_token (collected.Got answer)) ∷ executed ∷ []
 exchange_signs x s a c = sent_sign x s a (reply_token c) ∷ []
 
--- what is shown of hardware that refuses with this fault, before an agent collected in the same step
+-- what is shown of hardware that refuses with this fault, before an agent collected in the same
+-- step
 abbrev pub fault_signs : Fault → ℕ → Collected → List Sign
 fault_signs fault a c = if has_fault fault c then faulted a ∷ [] else []
 
@@ -164,7 +177,11 @@ abbrev pub shut_signs : {T : Type 0} → ℕ → Result T ShutError → List Sig
 shut_signs a (Ok u) = closed a side.Platform ∷ []
 shut_signs a (Err refusal) = remarked a ∷ []
 
--- what is shown of a step that came to this line: each command that was posted, and whether it is executed, in this step or later; each post that was refused, each execution, answer and message, each message that was posted, each advance, each refusal and each report of the hardware, each restart and each close, by its agent, once, in the words of its message; and what came to nothing. A set of the agent's last command may be one that takes effect later
+-- what is shown of a step that came to this line: each command that was posted, and whether it is
+-- executed, in this step or later; each post that was refused, each execution, answer and message,
+-- each message that was posted, each advance, each refusal and each report of the hardware, each
+-- restart and each close, by its agent, once, in the words of its message; and what came to
+-- nothing. A set of the agent's last command may be one that takes effect later
 abbrev pub signs_of : Bool → Bool → Step → StepLine → List Sign
 signs_of x later s (line.Token a token) = sent_sign x s (lane a) (Some token) ∷ []
 signs_of x later s (line.Posted a) = sent_sign x s (lane a) (raw_token s) ∷ []
@@ -173,7 +190,8 @@ signs_of x later s (line.Served a served) = served_signs (lane a) served
 signs_of x later (step.Do b call) (line.Collected a c) =
     exchange_signs x (step.Do b call) (lane a) c ++ collected_signs (lane a) later c
 signs_of x later (step.Fail b fault call) (line.Collected a c) =
-    exchange_signs x (step.Fail b fault call) (lane a) c ++ fault_signs fault (lane a) c ++ collected_signs (lane a) later c
+    exchange_signs x (step.Fail b fault call) (lane a) c ++ fault_signs fault (lane a) c
+    ++ collected_signs (lane a) later c
 signs_of x later s (line.Collected a c) = collected_signs (lane a) later c
 signs_of x later s (line.Advanced more) = advanced more ∷ []
 signs_of x later s (line.AdvanceFailed more) = failed_signs more

@@ -20,7 +20,8 @@ power_state word = if word == 0 then state.On else state.Off
 -- the state is that of this domain, clock or outbox after the history of a platform with this board
 abbrev pub IsStateOf : Subject → Board → List Event → State → Type 0
 IsStateOf (subject.Domain d) b h s = s ≡ power_state (value b (slot.State d) (deeds b h))
-IsStateOf (subject.Clock c) b h (state.Rate hertz enabled) = (hertz ≡ value b (slot.Rate c) (deeds b h)) × (bit_value enabled ≡ value b (slot.Enabled c) (deeds b h))
+IsStateOf (subject.Clock c) b h (state.Rate hertz enabled) = (hertz ≡ value b (slot.Rate c)
+    (deeds b h)) × (bit_value enabled ≡ value b (slot.Enabled c) (deeds b h))
 IsStateOf (subject.Clock c) b h _ = ⊥
 IsStateOf (subject.Outbox a) b h s = s ≡ state.Waiting (min (length (outbox b a h)) 255)
 

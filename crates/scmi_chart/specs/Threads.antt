@@ -28,20 +28,28 @@ pub record HasScripts (input : List ℕ) (board : Board) (scripts : List Script)
   pub is_board : board_left (record { rest = input; number = 1 }) ≡ Ok (board, lines)
   pub are_scripts : after_lines (with_line (length board.agents)) [] lines ≡ Ok (scripts_of scripts)
 
--- the chart shows what a run of these scripts on this board left: its history is legal, the agents' logs follow the scripts and agree with that history, and the steps that are drawn are those of the history, 2,000 at most
-pub record ShowsOutcome (full : Bool) (Shows : CallerView → Result Closing CloseError → Type 0) (board : Board) (scripts : List Script) (outcome : Outcome) (chart : Chart) : Type 0 where
+-- the chart shows what a run of these scripts on this board left: its history is legal, the agents'
+-- logs follow the scripts and agree with that history, and the steps that are drawn are those of
+-- the history, 2,000 at most
+pub record ShowsOutcome (full : Bool) (Shows : CallerView → Result Closing CloseError → Type 0)
+    (board : Board) (scripts : List Script) (outcome : Outcome) (chart : Chart) : Type 0 where
   pub legal : IsLegal board outcome.trace.events
   pub count : vec_len outcome.logs ≡ length board.agents
   pub follow : AllFrom (λ a log. IsScriptLog full (orders_of scripts a) log) 1 outcome.logs.items
-  pub headline : AllFrom (λ a log. LogHeadline board outcome.trace.events a log) 1 outcome.logs.items
+  pub headline : AllFrom
+      (λ a log. LogHeadline board outcome.trace.events a log) 1 outcome.logs.items
   pub few : length (steps_of_run outcome.trace.events outcome.logs.items) ≤ 2000
-  pub shown : ShowsRun full Shows board board (steps_of_run outcome.trace.events outcome.logs.items) chart
+  pub shown : ShowsRun full Shows board board
+      (steps_of_run outcome.trace.events outcome.logs.items) chart
 
 -- the chart shows what some run of these scripts on this board left
-abbrev pub ShowsScripts : (full : Bool) (Shows : CallerView → Result Closing CloseError → Type 0) → Board → List Script → Chart → Type 0
-ShowsScripts full Shows board scripts chart = (outcome : Outcome) × ShowsOutcome full Shows board scripts outcome chart
+abbrev pub ShowsScripts : (full : Bool) (Shows : CallerView → Result Closing CloseError → Type 0)
+    → Board → List Script → Chart → Type 0
+ShowsScripts full Shows board scripts chart = (outcome : Outcome)
+    × ShowsOutcome full Shows board scripts outcome chart
 
--- the chart shows what a run of the scripts that follow the first line of an input left, on the board there, over channels of this kind
+-- the chart shows what a run of the scripts that follow the first line of an input left, on the
+-- board there, over channels of this kind
 pub record ShowsThreads (kind : Kind) (input : List ℕ) (chart : Chart) : Type 0 where
   pub board : Board
   pub scripts : List Script

@@ -8,7 +8,8 @@ use Rattle.scmi_check.specs.Check.{IsFaultOfBoard}
 use Rattle.scmi_check.specs.CheckError.{error_of_board}
 
 -- a text without a valid board
-pub board_fails : (text : List ℕ) (e : BoardError) → IsBoardFault text e → IsFaultOfBoard text (error_of_board e)
+pub board_fails : (text : List ℕ) (e : BoardError) → IsBoardFault text e
+    → IsFaultOfBoard text (error_of_board e)
 board_fails text (board.Line line) is = line_fails text line is
 board_fails text (board.After line) is = after_fails text line is
 board_fails text (board.Rule rule) is = (rule, is, refl)

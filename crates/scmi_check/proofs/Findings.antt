@@ -32,9 +32,11 @@ fits-or-not (Own rule) = inl tt
 fits-or-not Differs = inr (λ none. none)
 
 -- an entry that differs is judged as it is
-pub as-it-is : (entry : Entry) (v : Verdict) → ¬ (Fits (finding_of entry v)) → judged_as entry v ≡ entry
+pub as-it-is : (entry : Entry) (v : Verdict) → ¬ (Fits (finding_of entry v))
+    → judged_as entry v ≡ entry
 as-it-is entry v differs = by (finding_of entry v) differs where
-  by : (f : Finding) → ¬ (Fits f) → elim f [ Same ↦ entry | Own rule ↦ in_place entry v | Differs ↦ entry ] ≡ entry
+  by : (f : Finding) → ¬ (Fits f)
+      → elim f [ Same ↦ entry | Own rule ↦ in_place entry v | Differs ↦ entry ] ≡ entry
   by Same away = refl
   by (Own rule) away = absurd (away tt)
   by Differs away = refl
@@ -42,26 +44,31 @@ as-it-is entry v differs = by (finding_of entry v) differs where
 -- so is one that is the same
 pub as-same : (entry : Entry) (v : Verdict) → finding_of entry v ≡ Same → judged_as entry v ≡ entry
 as-same entry v is = by (finding_of entry v) is where
-  by : (f : Finding) → f ≡ Same → elim f [ Same ↦ entry | Own rule ↦ in_place entry v | Differs ↦ entry ] ≡ entry
+  by : (f : Finding) → f ≡ Same
+      → elim f [ Same ↦ entry | Own rule ↦ in_place entry v | Differs ↦ entry ] ≡ entry
   by Same is = refl
   by (Own rule) is = absurd (cc)
   by Differs is = refl
 
 -- one that differs by a rule of the profile's own is judged with the answer that was due
-pub as-meant : (entry : Entry) (v : Verdict) (rule : OwnRule) → finding_of entry v ≡ Own rule → judged_as entry v ≡ in_place entry v
+pub as-meant : (entry : Entry) (v : Verdict) (rule : OwnRule) → finding_of entry v ≡ Own rule
+    → judged_as entry v ≡ in_place entry v
 as-meant entry v rule is = by (finding_of entry v) is where
-  by : (f : Finding) → f ≡ Own rule → elim f [ Same ↦ entry | Own rule ↦ in_place entry v | Differs ↦ entry ] ≡ in_place entry v
+  by : (f : Finding) → f ≡ Own rule
+      → elim f [ Same ↦ entry | Own rule ↦ in_place entry v | Differs ↦ entry ] ≡ in_place entry v
   by Same is = absurd (cc)
   by (Own other) is = refl
   by Differs is = absurd (cc)
 
 -- another reply than was due is never the same
 reply-other : (command due seen : Message) → reply_finding command due seen ≢ Same
-reply-other command due seen = by (is_same_header due.header seen.header) (own_rule (command_of command) due.payload.items seen.payload.items) where
-  by : (same : Bool) (rule : Option OwnRule) → (if same then elim rule [ None ↦ Differs | Some r ↦ Own r ] else Differs) ≢ Same
-  by true None = λ is. absurd (cc)
-  by true (Some r) = λ is. absurd (cc)
-  by false rule = λ is. absurd (cc)
+reply-other command due seen = by (is_same_header due.header seen.header)
+    (own_rule (command_of command) due.payload.items seen.payload.items) where
+      by : (same : Bool) (rule : Option OwnRule)
+          → (if same then elim rule [ None ↦ Differs | Some r ↦ Own r ] else Differs) ≢ Same
+      by true None = λ is. absurd (cc)
+      by true (Some r) = λ is. absurd (cc)
+      by false rule = λ is. absurd (cc)
 
 answer-other : (entry : Entry) (due : Message) → answer_finding entry due ≢ Same
 answer-other (Answered a (Good command) (Reply seen)) due = reply-other command due seen
@@ -93,7 +100,8 @@ pub other-found : (entry : Entry) (v : Verdict) → finding_of entry v ≢ Same 
 other-found entry v away is = away (subst (λ x. finding_of entry x ≡ Same) (sym is) refl)
 
 -- a reply that differs by a rule of the profile's own has one that was due
-pub own-due : (entry : Entry) (v : Verdict) (rule : OwnRule) (Does : Entry → Type 0) → finding_of entry v ≡ Own rule → IsDue v entry Does → Does (in_place entry v)
+pub own-due : (entry : Entry) (v : Verdict) (rule : OwnRule) (Does : Entry → Type 0)
+    → finding_of entry v ≡ Own rule → IsDue v entry Does → Does (in_place entry v)
 own-due entry verdict.Same rule Does is due = absurd (cc)
 own-due entry verdict.NoAgent rule Does is due = absurd (cc)
 own-due entry verdict.NoMessage rule Does is due = absurd (cc)

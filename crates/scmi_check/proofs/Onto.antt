@@ -65,32 +65,43 @@ module _ (placed : List Placed) (notes : List Note) where
   abbrev behind : AskingView → AskingView
   behind asking = record { entries = placed ++ asking.entries; asked = asking.asked }
 
-  one-onto : (asking : AskingView) (line : ℕ) (entry : Entry) → with_one (behind asking) line entry ≡ behind (with_one asking line entry)
-  one-onto asking line entry = ap (λ (es : List Placed). record { entries = es; asked = asking.asked })
+  one-onto : (asking : AskingView) (line : ℕ) (entry : Entry)
+      → with_one (behind asking) line entry ≡ behind (with_one asking line entry)
+  one-onto asking line entry =
+      ap (λ (es : List Placed). record { entries = es; asked = asking.asked })
       (append_assoc placed asking.entries (record { line = line; entry = entry } ∷ []))
 
-  place-onto : (asking : AskingView) (command : Waiting) (place : Option ℕ) → with_place (behind asking) command place ≡ behind (with_place asking command place)
+  place-onto : (asking : AskingView) (command : Waiting) (place : Option ℕ)
+      → with_place (behind asking) command place ≡ behind (with_place asking command place)
   place-onto asking command None = refl
-  place-onto asking command (Some k) = ap (λ (es : List Placed). record { entries = es; asked = (with_place asking command (Some k)).asked })
-      (append_assoc placed asking.entries (record { line = command.line; entry = Asked k command.agent command.frame } ∷ []))
+  place-onto asking command (Some k) = ap (λ (es : List Placed).
+      record { entries = es; asked = (with_place asking command (Some k)).asked })
+      (append_assoc placed asking.entries
+      (record { line = command.line; entry = Asked k command.agent command.frame } ∷ []))
 
-  asked-onto : (judged : List ℕ) (asking : AskingView) (command : Waiting) → with_asked judged (behind asking) command ≡ behind (with_asked judged asking command)
+  asked-onto : (judged : List ℕ) (asking : AskingView) (command : Waiting)
+      → with_asked judged (behind asking) command ≡ behind (with_asked judged asking command)
   unfolding with_asked
   asked-onto judged asking command = by (is_to_ask judged asking command) where
-    by : (b : Bool) → (if b then with_place (behind asking) command (position is_free asking.asked) else behind asking)
+    by : (b : Bool) → (if b then with_place (behind asking) command (position is_free asking.asked)
+        else behind asking)
         ≡ behind (if b then with_place asking command (position is_free asking.asked) else asking)
     by true = place-onto asking command (position is_free asking.asked)
     by false = refl
 
-  all-asked-onto : (judged : List ℕ) (asking : AskingView) (commands : List Waiting) → with_all_asked judged (behind asking) commands ≡ behind (with_all_asked judged asking commands)
+  all-asked-onto : (judged : List ℕ) (asking : AskingView) (commands : List Waiting)
+      → with_all_asked judged (behind asking) commands
+      ≡ behind (with_all_asked judged asking commands)
   all-asked-onto judged asking [] = refl
   all-asked-onto judged asking (command ∷ commands) =
       ap (λ (a : AskingView). with_all_asked judged a commands) (asked-onto judged asking command)
       ∙ all-asked-onto judged (with_asked judged asking command) commands
 
-  without-onto : (asking : AskingView) (line : ℕ) (place : Option ℕ) → without_answer (behind asking) line place ≡ behind (without_answer asking line place)
+  without-onto : (asking : AskingView) (line : ℕ) (place : Option ℕ)
+      → without_answer (behind asking) line place ≡ behind (without_answer asking line place)
   without-onto asking line None = refl
-  without-onto asking line (Some k) = ap (λ (a : AskingView). with_free a k) (one-onto asking line (GivenUp k))
+  without-onto asking line (Some k) =
+      ap (λ (a : AskingView). with_free a k) (one-onto asking line (GivenUp k))
 
   given-up-onto : (asking : AskingView) (command : Waiting)
       → with_given_up (behind asking) command ≡ behind (with_given_up asking command)
@@ -116,7 +127,8 @@ module _ (placed : List Placed) (notes : List Note) where
       → with_judged (at shows) line entry ≡ at (with_judged shows line entry)
   judged-onto shows line entry =
       ap (λ (a : AskingView). with_asking (at shows) a)
-      (ap (λ (a : AskingView). with_one a line entry) (ready-onto shows) ∙ one-onto (ready shows) line entry)
+      (ap (λ (a : AskingView). with_one a line entry) (ready-onto shows)
+      ∙ one-onto (ready shows) line entry)
 
   entry-of-onto : (protocol : Option ℕ) (shows : Shows) (line : ℕ) (entry : Entry)
       → with_entry_of protocol (at shows) line entry ≡ at (with_entry_of protocol shows line entry)
@@ -133,15 +145,20 @@ module _ (placed : List Placed) (notes : List Note) where
       → with_entry (at shows) line entry ≡ at (with_entry shows line entry)
   entry-onto shows line entry = entry-of-onto (entry_protocol entry) shows line entry
 
-  answered-at-onto : (place : Option ℕ) (shows : Shows) (line : ℕ) (command : Waiting) (answer : Answer)
-      → answered_at place (at shows) line command answer ≡ at (answered_at place shows line command answer)
-  answered-at-onto None shows line command answer = entry-onto shows line (Answered command.agent command.frame answer)
+  answered-at-onto : (place : Option ℕ) (shows : Shows) (line : ℕ) (command : Waiting)
+      (answer : Answer)
+      → answered_at place (at shows) line command answer
+      ≡ at (answered_at place shows line command answer)
+  answered-at-onto None shows line command answer =
+      entry-onto shows line (Answered command.agent command.frame answer)
   answered-at-onto (Some k) shows line command answer =
-      ap (λ (s : Shows). with_asking s (with_free (asking_of s) k)) (entry-onto shows line (Replied k command.agent command.frame answer))
+      ap (λ (s : Shows). with_asking s (with_free (asking_of s) k))
+      (entry-onto shows line (Replied k command.agent command.frame answer))
 
   answered-onto : (shows : Shows) (line : ℕ) (command : Waiting) (answer : Answer)
       → with_answered (at shows) line command answer ≡ at (with_answered shows line command answer)
-  answered-onto shows line command answer = answered-at-onto (place_of_line (asking_of shows) command.line) shows line command answer
+  answered-onto shows line command answer =
+      answered-at-onto (place_of_line (asking_of shows) command.line) shows line command answer
 
   unmatched-onto : (shows : Shows) (line protocol : ℕ)
       → with_unmatched (at shows) line protocol ≡ at (with_unmatched shows line protocol)
@@ -195,7 +212,8 @@ module _ (placed : List Placed) (notes : List Note) where
               payload = call.payload;
             }))
 
-        by : (taken : Option (ℕ × Shows)) → (taken-at taken >>= post) ≡ option_map at (taken >>= post)
+        by : (taken : Option (ℕ × Shows))
+            → (taken-at taken >>= post) ≡ option_map at (taken >>= post)
         by None = refl
         by (Some token) = posted-onto token.1 line a
             (Good (record {
@@ -208,10 +226,13 @@ module _ (placed : List Placed) (notes : List Note) where
   unfolding with_answer
   answer-onto shows line a answer = by (command_taken shows.waiting a) where
     by : (taken : Option (Waiting × List Waiting))
-        → (taken >>= λ t. Some (with_answered (record (at shows) { waiting = t.1 }) line t.0 answer))
-        ≡ option_map at (taken >>= λ t. Some (with_answered (record shows { waiting = t.1 }) line t.0 answer))
+        → (taken
+        >>= λ t. Some (with_answered (record (at shows) { waiting = t.1 }) line t.0 answer))
+        ≡ option_map at
+        (taken >>= λ t. Some (with_answered (record shows { waiting = t.1 }) line t.0 answer))
     by None = refl
-    by (Some t) = ap (λ (s : Shows). Some s) (answered-onto (record shows { waiting = t.1 }) line t.0 answer)
+    by (Some t) =
+        ap (λ (s : Shows). Some s) (answered-onto (record shows { waiting = t.1 }) line t.0 answer)
 
   given-onto : (shows : Shows) (command : Waiting)
       → given_up (at shows) command ≡ at (given_up shows command)

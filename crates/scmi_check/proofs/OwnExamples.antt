@@ -19,11 +19,13 @@ each_rule : own_rule (read (Power (power.Get 9))) (0xfffffffc ∷ []) (0xfffffff
     ∷ own_rule (read (Power (power.Get 9))) (0xfffffffc ∷ []) (0xfffffffc ∷ 0 ∷ [])
     ∷ own_rule (read (Clock clock.Version)) (0 ∷ 0x10000 ∷ []) (0 ∷ 0x20000 ∷ [])
     ∷ own_rule (read (Base base.Implementation)) (0 ∷ 0x10000 ∷ []) (0 ∷ 0 ∷ []) ∷ []
-    ≡ Some UnknownId ∷ Some ReservedFlags ∷ Some Skip ∷ Some Index ∷ Some ErrorForm ∷ Some Version ∷ Some BoardName ∷ []
+    ≡ Some UnknownId ∷ Some ReservedFlags ∷ Some Skip ∷ Some Index ∷ Some ErrorForm ∷ Some Version
+    ∷ Some BoardName ∷ []
 unfolding own_rule
 each_rule = refl
 
--- a state, a denied set, flags without a reserved bit, a list when none was due, and a longer success
+-- a state, a denied set, flags without a reserved bit, a list when none was due, and a longer
+-- success
 no_rule : own_rule (read (Power (power.Get 0))) (0 ∷ 0 ∷ []) (0 ∷ 0x40000000 ∷ [])
     ∷ own_rule (read (Power (power.Set 0 0 0))) (0xfffffffd ∷ []) (0 ∷ [])
     ∷ own_rule (read (Power (power.Set 1 0 5))) (0xfffffffe ∷ []) (0 ∷ [])

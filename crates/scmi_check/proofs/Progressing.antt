@@ -201,7 +201,8 @@ module _ (may : Unseen) (board : Board) (placed : List Placed) (judged : List Ju
             (subst (λ x. ¬ (HasLegalHistory old.judge.unseen x (one.entry ∷ behind judged)))
             being.board_is (differs (behind judged) (being.knows sure all) away))
 
-        pub now-judged : new.unsure ≡ None → new.differs ≡ list_any does_differ judged || does_differ
+        pub now-judged : new.unsure ≡ None
+            → new.differs ≡ list_any does_differ judged || does_differ
             (record { line = one.line; entry = one.entry; verdict = v })
             → new.is_empty ≡ old.is_empty && not (shows_platform one)
             → AreBeingJudged may board (placed ++ one ∷ [])

@@ -29,7 +29,8 @@ use Rattle.scmi_check.specs.declared.record.Placed.{Placed}
 
 -- the command of a protocol, a token, a message id and these payload words
 abbrev pub command : ℕ → ℕ → ℕ → List ℕ → Frame
-command protocol token id words = Good (record { header = protocol_header protocol token id; payload = record { items = words } })
+command protocol token id words =
+    Good (record { header = protocol_header protocol token id; payload = record { items = words } })
 
 abbrev pub at : ℕ → Entry → Placed
 at line entry = record { line = line; entry = entry }
@@ -45,8 +46,10 @@ with_notes notes = record { notes = notes; skipped = 0; protocols = [] }
 abbrev pub only : List Placed → RecordView
 only entries = record { entries = entries; left = nothing_left }
 
--- each form of a line, with a comment and a blank line; a message is between a command and its answer; the second `do` of agent 1 has its next token, and `raw` its own
-whole_record : record_left PROTOCOLS 2 (whole (codes "do 1 0x11 5 0\n1 reply 0x4405 0 7\n# later\nraw 2 0x4000 9\n\n2 error\n1 p2a 0x4604 0\ndo 1 16 3\n1 p2a 0x4700\n1 released\nbad 2 5 0x4000\n2 error\n"))
+-- each form of a line, with a comment and a blank line; a message is between a command and its
+-- answer; the second `do` of agent 1 has its next token, and `raw` its own
+whole_record : record_left PROTOCOLS 2 (whole (codes
+    "do 1 0x11 5 0\n1 reply 0x4405 0 7\n# later\nraw 2 0x4000 9\n\n2 error\n1 p2a 0x4604 0\ndo 1 16 3\n1 p2a 0x4700\n1 released\nbad 2 5 0x4000\n2 error\n"))
     ≡ Ok (only (
     at 2 (Answered 1 (command 0x11 0 5 (0 ∷ [])) (Reply (raw_with 0x4405 (0 ∷ 7 ∷ []))))
     ∷ at 6 (Answered 2 (Good (raw_with 0x4000 (9 ∷ []))) ChannelError)
@@ -58,18 +61,23 @@ whole_record : record_left PROTOCOLS 2 (whole (codes "do 1 0x11 5 0\n1 reply 0x4
 unfolding behind_spaces first_number item_at items_up_to number_of first_agent first_message payload_behind with_word agent_head command_head first_head head_of payload_of step_of_line after_each_line lines_of lines_behind cpu_left stamp_left first_words happened_at seen_at seen_behind session_shown shown_at command_taken token_taken with_answer with_asked with_called with_given_up with_line with_posted with_shown
 whole_record = refl
 
--- two agents' commands that wait for their answers, in order, at a message; one has its answer behind it, and one none
-no_answers : record_left PROTOCOLS 2 (whole (codes "#\ndo 2 16 3\ndo 1 16 3\n2 p2a 0x4700\n1 released\nraw 1 0x4000\n"))
+-- two agents' commands that wait for their answers, in order, at a message; one has its answer
+-- behind it, and one none
+no_answers : record_left PROTOCOLS 2
+    (whole (codes "#\ndo 2 16 3\ndo 1 16 3\n2 p2a 0x4700\n1 released\nraw 1 0x4000\n"))
     ≡ Ok (record {
-      entries = at 2 (Asked 0 2 (command 0x10 0 3 [])) ∷ at 3 (Asked 1 1 (command 0x10 0 3 [])) ∷ at 4 (Delivered 2 (raw_with 0x4700 []))
+      entries = at 2 (Asked 0 2 (command 0x10 0 3 [])) ∷ at 3 (Asked 1 1 (command 0x10 0 3 []))
+          ∷ at 4 (Delivered 2 (raw_with 0x4700 []))
           ∷ at 5 (Replied 1 1 (command 0x10 0 3 []) Released) ∷ [];
       left = with_notes (noted 2 Unanswered ∷ noted 6 Unanswered ∷ []);
     })
 unfolding behind_spaces first_number item_at items_up_to number_of first_agent first_message payload_behind with_word agent_head command_head first_head head_of payload_of step_of_line after_each_line lines_of lines_behind cpu_left stamp_left first_words happened_at seen_at seen_behind session_shown shown_at command_taken token_taken with_answer with_asked with_called with_given_up with_line with_posted with_shown
 no_answers = refl
 
--- of other protocols than those that are judged: a command with its answer, a message, and a command that has no answer
-other_protocols : record_left (0x10 ∷ 0x13 ∷ []) 2 (whole (codes "raw 1 0x4c00\n1 error\n2 p2a 0x4700\nraw 1 0x5005 7\n1 released\nraw 2 0x4405\nraw 1 0x5005\n"))
+-- of other protocols than those that are judged: a command with its answer, a message, and a
+-- command that has no answer
+other_protocols : record_left (0x10 ∷ 0x13 ∷ []) 2 (whole (codes
+    "raw 1 0x4c00\n1 error\n2 p2a 0x4700\nraw 1 0x5005 7\n1 released\nraw 2 0x4405\nraw 1 0x5005\n"))
     ≡ Ok (record {
       entries = at 2 (Answered 1 (Good (raw_with 0x4c00 [])) ChannelError) ∷ [];
       left = record { notes = []; skipped = 4; protocols = 0x11 ∷ 0x14 ∷ [] };
@@ -77,15 +85,18 @@ other_protocols : record_left (0x10 ∷ 0x13 ∷ []) 2 (whole (codes "raw 1 0x4c
 unfolding behind_spaces first_number item_at items_up_to number_of first_agent first_message payload_behind with_word agent_head command_head first_head head_of payload_of step_of_line after_each_line lines_of lines_behind cpu_left stamp_left first_words happened_at seen_at seen_behind session_shown shown_at command_taken token_taken with_answer with_asked with_called with_given_up with_line with_posted with_shown
 other_protocols = refl
 
--- an answer before a command, to another agent's, a command before the one of its agent that waits has its answer, an agent that the board lacks, and a step that posts nothing
+-- an answer before a command, to another agent's, a command before the one of its agent that waits
+-- has its answer, an agent that the board lacks, and a step that posts nothing
 first_faults : map (λ text. record_left PROTOCOLS 2 (whole text)) (
-    codes "1 error" ∷ codes "do 1 16 3\n2 error" ∷ codes "do 1 16 3\ndo 1 16 3\n" ∷ codes "3 p2a 0x4700" ∷ codes "serve 1" ∷ [])
+    codes "1 error" ∷ codes "do 1 16 3\n2 error" ∷ codes "do 1 16 3\ndo 1 16 3\n"
+    ∷ codes "3 p2a 0x4700" ∷ codes "serve 1" ∷ [])
     ≡ Err 1 ∷ Err 2 ∷ Err 2 ∷ Err 1 ∷ Err 1 ∷ []
 unfolding behind_spaces first_number item_at items_up_to number_of first_agent first_message payload_behind with_word agent_head command_head first_head head_of payload_of step_of_line after_each_line lines_of lines_behind cpu_left stamp_left first_words happened_at seen_at seen_behind session_shown shown_at command_taken token_taken with_answer with_asked with_called with_given_up with_line with_posted with_shown
 first_faults = refl
 
 -- what the hardware told, in each of its forms; a command that waits there is answered later
-told_lines : record_left PROTOCOLS 1 (whole (codes "report state 1 0x40000000\nreport rate 2 5 1\nreport enabled 2 0\ndo 1 16 3\nreport first 3\nreport settled 2 5 0\n1 released\n"))
+told_lines : record_left PROTOCOLS 1 (whole (codes
+    "report state 1 0x40000000\nreport rate 2 5 1\nreport enabled 2 0\ndo 1 16 3\nreport first 3\nreport settled 2 5 0\n1 released\n"))
     ≡ Ok (only (
     at 1 (Told (Changed (State 1 0x40000000)))
     ∷ at 2 (Told (Changed (Rate 2 0x100000005)))
@@ -99,7 +110,8 @@ told_lines = refl
 
 -- lines that have the word and are no report
 untold_lines : map (λ text. record_left PROTOCOLS 2 (whole text)) (
-    codes "report" ∷ codes "report first" ∷ codes "report first 0 0" ∷ codes "report state 0" ∷ codes "report enabled 0 2" ∷ codes "1 report first 0" ∷ [])
+    codes "report" ∷ codes "report first" ∷ codes "report first 0 0" ∷ codes "report state 0"
+    ∷ codes "report enabled 0 2" ∷ codes "1 report first 0" ∷ [])
     ≡ Err 1 ∷ Err 1 ∷ Err 1 ∷ Err 1 ∷ Err 1 ∷ Err 1 ∷ []
 unfolding behind_spaces first_number item_at items_up_to number_of first_agent first_message payload_behind with_word agent_head command_head first_clock_rate first_flag first_head first_report head_of payload_of report_head report_left report_of step_of_line after_each_line lines_of lines_behind cpu_left stamp_left first_words happened_at seen_at seen_behind session_shown shown_at told_left command_taken token_taken with_answer with_asked with_called with_given_up with_line with_posted with_shown
 untold_lines = refl

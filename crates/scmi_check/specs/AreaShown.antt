@@ -21,7 +21,8 @@ with_area_word bytes item = do
   word ← number_of 32 item
   if nat_le (length bytes + 4) AREA_BYTES then Some (bytes ++ to_le_bytes w32 word) else None
 
--- these bytes of an area, and those of the words of all items that are left; none if the spaces have a fault
+-- these bytes of an area, and those of the words of all items that are left; none if the spaces
+-- have a fault
 unfoldable pub area_behind : List ℕ → ItemsView → Option (List ℕ)
 area_behind bytes view = if view.whole then after_each with_area_word bytes view.items else None
 
@@ -39,7 +40,8 @@ area_described view = do
   area ← area_left view
   described area
 
--- a message in the area of an agent's A2P channel: its command while the channel is busy, and the response once it is free
+-- a message in the area of an agent's A2P channel: its command while the channel is busy, and the
+-- response once it is free
 abbrev pub message_in : ℕ → Bool → Message → Shown
 message_in a free message = if free then Got a (Reply message) else Posted a (Good message)
 
@@ -54,7 +56,8 @@ a2p_shown a (is.Delayed free message) = Some (message_in a free message)
 a2p_shown a (is.Notification free message) = Some (message_in a free message)
 a2p_shown a (is.Foreign free message) = Some (message_in a free message)
 a2p_shown a (is.ChannelError frame) = Some (Got a ChannelError)
-a2p_shown a (is.Malformed free len header) = if free then None else Some (Posted a (Malformed len header))
+a2p_shown a (is.Malformed free len header) = if free then None
+    else Some (Posted a (Malformed len header))
 
 -- a message in the area of an agent's P2A channel, which the agent takes while the channel is busy
 abbrev pub taken : ℕ → Bool → Message → Option Shown

@@ -56,7 +56,8 @@ is_frame_judged judged (Malformed length header) = true
 abbrev pub with_place : AskingView → Waiting → Option ℕ → AskingView
 with_place asking command None = asking
 with_place asking command (Some place) = record {
-  entries = asking.entries ++ record { line = command.line; entry = Asked place command.agent command.frame } ∷ [];
+  entries = asking.entries
+      ++ record { line = command.line; entry = Asked place command.agent command.frame } ∷ [];
   asked = slice_set asking.asked place (Some command.line);
 }
 
@@ -69,7 +70,8 @@ is_to_ask judged asking command =
 -- the place of its answer (own)
 unfoldable pub with_asked : List ℕ → AskingView → Waiting → AskingView
 with_asked judged asking command =
-    if is_to_ask judged asking command then with_place asking command (position is_free asking.asked) else asking
+    if is_to_ask judged asking command
+    then with_place asking command (position is_free asking.asked) else asking
 
 -- the same of each of these commands, in order
 abbrev pub with_all_asked : List ℕ → AskingView → List Waiting → AskingView

@@ -41,10 +41,10 @@ IsRecordText Means judged board text read =
     (givens : List Line) × AreMeant Means (lines_left (whole text)) givens
     × (record_of judged (length board.agents) givens ≡ Ok read)
 
--- this is found of a record of a platform of a board. At least one answer or message is to be judged: of the entries
--- that are judged, however many are taken from the first on, none differs if and only if they have
--- a legal history. If not all are judged, and none of these differs, then there are more platforms
--- than are kept, no two the same, each of which may be behind these
+-- this is found of a record of a platform of a board. At least one answer or message is to be
+-- judged: of the entries that are judged, however many are taken from the first on, none differs if
+-- and only if they have a legal history. If not all are judged, and none of these differs, then
+-- there are more platforms than are kept, no two the same, each of which may be behind these
 pub record IsFoundOf (may : Unseen) (board : Board) (read : RecordView) (judged : List Judged)
     (notes : List Note) (checked : Checked) : Type 0 where
   pub some : list_any shows_platform read.entries ≡ true
@@ -109,11 +109,13 @@ pub record IsChecked (Means : List ℕ → List ℕ → Type 0) (options : Check
 abbrev pub HasVerdict : ℕ → Type 0
 HasVerdict status = (status ≡ 0) ⊎ (status ≡ DIFFERS) ⊎ (status ≡ UNSURE)
 
--- a fault of a board's text: its length, its first line that is not one of a board or follows it, or the first rule that the board breaks. A failed read, or out of memory, shows nothing of it
+-- a fault of a board's text: its length, its first line that is not one of a board or follows it,
+-- or the first rule that the board breaks. A failed read, or out of memory, shows nothing of it
 abbrev pub IsFaultOfBoard : List ℕ → CheckError → Type 0
 IsFaultOfBoard text Size = INPUT_BYTES < length text
 IsFaultOfBoard text (BoardLine line) = said_in text ≡ Err line
-IsFaultOfBoard text (PlanRule rule) = (broken : PlanError) × IsBoardFault text (board.Rule broken) × (rule ≡ number broken)
+IsFaultOfBoard text (PlanRule rule) = (broken : PlanError) × IsBoardFault text (board.Rule broken)
+    × (rule ≡ number broken)
 IsFaultOfBoard text Read = ⊤
 IsFaultOfBoard text Memory = ⊤
 IsFaultOfBoard text _ = ⊥

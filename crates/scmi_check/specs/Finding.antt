@@ -14,11 +14,13 @@ use Rattle.scmi_check.specs.Own.{own_rule}
 use Rattle.scmi_check.specs.declared.finding.Finding.{Finding}
 use Rattle.scmi_check.specs.declared.finding.Finding.TheVariants.{Same, Own, Differs}
 
--- another reply to a command than was due: own if the headers are the same and a rule of the profile's own decides
+-- another reply to a command than was due: own if the headers are the same and a rule of the
+-- profile's own decides
 abbrev pub reply_finding : Message → Message → Message → Finding
 reply_finding command due seen =
     if is_same_header due.header seen.header then
-    elim (own_rule (command_of command) due.payload.items seen.payload.items) [ None ↦ Differs | Some rule ↦ Own rule ]
+    elim (own_rule (command_of command) due.payload.items seen.payload.items)
+    [ None ↦ Differs | Some rule ↦ Own rule ]
     else Differs
 
 -- another answer than the reply that was due
@@ -44,6 +46,8 @@ abbrev pub is_difference : Finding → Bool
 is_difference Differs = true
 is_difference _ = false
 
--- what an entry is judged as: a reply that differs by a rule of the profile's own is judged as the one that was due
+-- what an entry is judged as: a reply that differs by a rule of the profile's own is judged as the
+-- one that was due
 abbrev pub judged_as : Entry → Verdict → Entry
-judged_as entry v = elim (finding_of entry v) [ Same ↦ entry | Own rule ↦ in_place entry v | Differs ↦ entry ]
+judged_as entry v =
+    elim (finding_of entry v) [ Same ↦ entry | Own rule ↦ in_place entry v | Differs ↦ entry ]

@@ -31,13 +31,16 @@ meant one = judged_as one.entry one.verdict
 abbrev pub behind : List Judged → List Entry
 behind judged = reverse (map meant judged)
 
--- these are the first entries of a record with the verdicts on them: however many of them are taken, none of these
--- differs, but by rules of the profile's own, if and only if a legal history of the board is behind them, with the reply
--- that was due in place of each that differs by such a rule
-pub record AreJudged (may : Unseen) (board : Board) (placed : List Placed) (judged : List Judged) : Type 0 where
+-- these are the first entries of a record with the verdicts on them: however many of them are
+-- taken, none of these differs, but by rules of the profile's own, if and only if a legal history
+-- of the board is behind them, with the reply that was due in place of each that differs by such a
+-- rule
+pub record AreJudged (may : Unseen) (board : Board) (placed : List Placed)
+    (judged : List Judged) : Type 0 where
   pub few : length judged ≤ length placed
   pub first : map placed_of judged ≡ take (length judged) placed
-  pub right : (count : ℕ) → count ≤ length judged → All DoesFit (take count judged) ↔ IsRight may board (map meant (take count judged))
+  pub right : (count : ℕ) → count ≤ length judged
+      → All DoesFit (take count judged) ↔ IsRight may board (map meant (take count judged))
 
 -- the platform gave what an entry of a record shows
 abbrev pub shows_platform : Placed → Bool

@@ -1,4 +1,5 @@
--- Where another platform may answer otherwise by the profile: the rules that are its own, each as a test of a command, the payload that is due and the one that was seen.
+-- Where another platform may answer otherwise by the profile: the rules that are its own, each as a
+-- test of a command, the payload that is due and the one that was seen.
 use Rattle.std.specs.Prelude.{ℕ, ◌==◌, ◌&&◌, nat_lt, not, Bool, true, false, List, [], ◌∷◌, Option, Result, Ok}
 use Rattle.std.specs.List.{find}
 use Rattle.scmi_codec.specs.Status.{status_word}
@@ -25,7 +26,8 @@ is_nothing_given _ = false
 
 -- an error is due, and the same is seen with words after it
 abbrev pub is_longer_error : List ℕ → List ℕ → Bool
-is_longer_error (due ∷ []) (first ∷ second ∷ others) = due == first && not (due == status_word Success)
+is_longer_error (due ∷ []) (first ∷ second ∷ others) =
+    due == first && not (due == status_word Success)
 is_longer_error _ _ = false
 
 -- a reserved bit of a command's flags is set: bits 31 to 1, and of a rate's set bits 31 to 4
@@ -65,12 +67,17 @@ asks_board _ = false
 -- a reply to a command, which was read as this one, differs by a rule from the one that is due
 abbrev pub is_by : OwnRule → Result Command Status → List ℕ → List ℕ → Bool
 is_by UnknownId command due seen = begins_with due NotFound && begins_with seen InvalidParameters
-is_by ReservedFlags command due seen = has_reserved_flags command && begins_with due InvalidParameters
-is_by Skip command due seen = asks_protocols command && begins_with due InvalidParameters && is_nothing_given seen
-is_by Index command due seen = describes_rates command && begins_with due OutOfRange && is_nothing_given seen
+is_by ReservedFlags command due seen =
+    has_reserved_flags command && begins_with due InvalidParameters
+is_by Skip command due seen =
+    asks_protocols command && begins_with due InvalidParameters && is_nothing_given seen
+is_by Index command due seen =
+    describes_rates command && begins_with due OutOfRange && is_nothing_given seen
 is_by ErrorForm command due seen = is_longer_error due seen
-is_by Version command due seen = asks_version command && begins_with due Success && begins_with seen Success
-is_by BoardName command due seen = asks_board command && begins_with due Success && begins_with seen Success
+is_by Version command due seen =
+    asks_version command && begins_with due Success && begins_with seen Success
+is_by BoardName command due seen =
+    asks_board command && begins_with due Success && begins_with seen Success
 
 -- the first rule by which a reply differs
 unfoldable pub own_rule : Result Command Status → List ℕ → List ℕ → Option OwnRule

@@ -120,7 +120,8 @@ with_judged shows line entry = with_asking shows (with_one (ready shows) line en
 -- the same of an entry of this protocol: it is skipped unless the protocol is judged
 abbrev pub with_entry_of : Option ℕ → Shows → ℕ → Entry → Shows
 with_entry_of None shows line entry = with_judged shows line entry
-with_entry_of (Some protocol) shows line entry = if is_judged shows.judged protocol then with_judged shows line entry else record shows { left = with_skipped shows.left protocol }
+with_entry_of (Some protocol) shows line entry = if is_judged shows.judged protocol
+    then with_judged shows line entry else record shows { left = with_skipped shows.left protocol }
 
 -- the same of any entry
 abbrev pub with_entry : Shows → ℕ → Entry → Shows
@@ -128,7 +129,10 @@ with_entry shows line entry = with_entry_of (entry_protocol entry) shows line en
 
 -- a message of a protocol in a trace that is not judged, at the line of this number
 abbrev pub with_unmatched : Shows → ℕ → ℕ → Shows
-with_unmatched shows line protocol = record shows { left = with_left shows.judged shows.left (Some protocol) (record { line = line; kind = Unmatched }) }
+with_unmatched shows line protocol = record shows {
+  left = with_left shows.judged shows.left
+      (Some protocol) (record { line = line; kind = Unmatched });
+}
 
 -- whether a command is this agent's
 abbrev pub is_by : ℕ → Waiting → Bool
@@ -136,25 +140,29 @@ is_by a waiting = waiting.agent == a
 
 -- a command that waits for its answer
 abbrev pub with_waiting : Shows → ℕ → ℕ → Frame → Shows
-with_waiting shows line a frame = record shows { waiting = shows.waiting ++ record { line = line; agent = a; frame = frame } ∷ [] }
+with_waiting shows line a frame = record shows
+    { waiting = shows.waiting ++ record { line = line; agent = a; frame = frame } ∷ [] }
 
 -- a command, if none of its agent waits for its answer
 unfoldable pub with_posted : Shows → ℕ → ℕ → Frame → Option Shows
-with_posted shows line a frame = elim (position (is_by a) shows.waiting) [ None ↦ Some (with_waiting shows line a frame) | Some place ↦ None ]
+with_posted shows line a frame = elim (position (is_by a) shows.waiting)
+    [ None ↦ Some (with_waiting shows line a frame) | Some place ↦ None ]
 
 -- the next token of an agent, as a session counts it, and what is shown once it is taken; none if
 -- no board has the agent
 unfoldable pub token_taken : Shows → ℕ → Option (ℕ × Shows)
 token_taken shows a =
     if nat_le 1 a && nat_le a AGENTS then
-    (let token = get_or shows.tokens (a - 1) 0 % TOKENS in Some (token, record shows { tokens = slice_set shows.tokens (a - 1) (token + 1) }))
+    (let token = get_or shows.tokens (a - 1) 0 % TOKENS in
+    Some (token, record shows { tokens = slice_set shows.tokens (a - 1) (token + 1) }))
     else None
 
 -- a command with the next token of its agent
 unfoldable pub with_called : Shows → ℕ → ℕ → Call → Option Shows
 with_called shows line a call = do
   token ← token_taken shows a
-  with_posted token.1 line a (Good (record { header = protocol_header call.protocol token.0 call.message; payload = call.payload }))
+  with_posted token.1 line a (Good (record
+      { header = protocol_header call.protocol token.0 call.message; payload = call.payload }))
 
 -- the command at a place among those that wait for their answers, and the others
 abbrev pub taken_at : List Waiting → ℕ → Option (Waiting × List Waiting)
@@ -177,7 +185,8 @@ is_with a token waiting = waiting.agent == a && has_token token waiting.frame
 -- the command of an agent with a token among those that wait, and the others; none if no such
 -- command waits
 unfoldable pub taken_with : List Waiting → ℕ → ℕ → Option (Waiting × List Waiting)
-taken_with waiting a token = position (is_with a token) waiting >>= λ place. slice_get waiting place >>= λ command. Some (command, remove waiting place)
+taken_with waiting a token = position (is_with a token) waiting >>= λ place. slice_get waiting place
+    >>= λ command. Some (command, remove waiting place)
 
 -- whether a response that answered no command is this agent's and has this token
 abbrev pub is_early : Option Early → ℕ → ℕ → Bool
@@ -215,7 +224,8 @@ none_early shows = record shows { early = None }
 abbrev pub with_traced : Shows → ℕ → ℕ → Message → Shows
 with_traced shows line a message =
     let free = token_free shows a message.header.token in
-    if is_early free.early a message.header.token then with_unmatched (none_early free) line message.header.protocol
+    if is_early free.early a message.header.token
+    then with_unmatched (none_early free) line message.header.protocol
     else with_trace (none_early free) line a (Good message)
 
 -- a command with its answer, which comes to this place, if the command has one
@@ -241,7 +251,10 @@ with_answer shows line a answer = do
 -- is not judged
 abbrev pub with_response : Shows → ℕ → ℕ → Message → Shows
 with_response shows line a message = elim (taken_with shows.traced a message.header.token) [
-  | None ↦ with_unmatched (record shows { early = Some (record { agent = a; token = message.header.token }) }) line message.header.protocol
+  | None ↦ with_unmatched (record shows {
+    early = Some
+        (record { agent = a; token = message.header.token });
+  }) line message.header.protocol
   | Some taken ↦ with_answered (record shows { traced = taken.1 }) line taken.0 (Reply message)
 ]
 
@@ -285,7 +298,11 @@ record_shown shows = record { entries = shows.entries; left = shows.left }
 -- the record once no line is left: the commands that wait have no answer
 abbrev pub finished : Shows → RecordView
 finished shows =
-    record { entries = shows.entries; left = with_no_answers shows.judged (with_no_answers shows.judged shows.left shows.waiting) shows.traced }
+    record {
+      entries = shows.entries;
+      left = with_no_answers shows.judged
+          (with_no_answers shows.judged shows.left shows.waiting) shows.traced;
+    }
 
 -- the same of what lines show, unless one of them can't be there
 abbrev pub all_finished : Result Shows ℕ → Result RecordView ℕ

@@ -68,7 +68,8 @@ seen_behind form.P2aArea a view = do
 abbrev pub seen_forms : List (WordRow (List ℕ) SeenForm)
 seen_forms = map (λ row. record { word = row.word.now; form = row.form }) SEEN_FORMS
 
--- what an agent got: A reply H W.., A released, A error, or A p2a H W..; or what is in an area of its channels: A area W.., or A p2a-area W..
+-- what an agent got: A reply H W.., A released, A error, or A p2a H W..; or what is in an area of
+-- its channels: A area W.., or A p2a-area W..
 unfoldable pub seen_at : ℕ → ItemsView → Option Shown
 seen_at agents view = do
   agent ← first_agent agents view
@@ -82,20 +83,23 @@ told_left view = do
   report ← report_left view
   Some (Told report)
 
--- what happened beside the commands: what the hardware told, or else what an agent got, as a run's output has it
+-- what happened beside the commands: what the hardware told, or else what an agent got, as a run's
+-- output has it
 unfoldable pub happened_at : ℕ → ItemsView → Option Shown
 happened_at agents view = do
   word ← first_item view
   if bytes_eq word.0 REPORT.now then told_left word.1 else seen_at agents view
 
--- what a line of a session shows: the command of a step, as a script has it, or else what happened beside the commands
+-- what a line of a session shows: the command of a step, as a script has it, or else what happened
+-- beside the commands
 unfoldable pub session_shown : ℕ → List ℕ → Option Shown
 session_shown agents text = elim (plain_step_of_line agents text) [
   | Some step ↦ command_shown step
   | None ↦ happened_at agents (items_left text)
 ]
 
--- what the message of an event shows: the agent posts a command, over any of its channels, gets the response to that of its token, and takes any other
+-- what the message of an event shows: the agent posts a command, over any of its channels, gets the
+-- response to that of its token, and takes any other
 abbrev pub message_shown : EventKind → ℕ → Message → Shown
 message_shown event.Command a message = PostedBeside a message
 message_shown event.Response a message = Responded a message
@@ -104,9 +108,11 @@ message_shown event.Notification a message = Took a message
 
 -- the same, if the board has the agent of the instance, which is the one after it (own)
 abbrev pub event_shown : (agents instance : ℕ) → EventKind → Message → Option Shown
-event_shown agents instance k message = if nat_lt instance agents then Some (message_shown k (instance + 1) message) else None
+event_shown agents instance k message = if nat_lt instance agents
+    then Some (message_shown k (instance + 1) message) else None
 
--- what items of a line without an event of SCMI show: that events are lost, nothing of another line of a trace, and else that of a line of a session
+-- what items of a line without an event of SCMI show: that events are lost, nothing of another line
+-- of a trace, and else that of a line of a session
 abbrev pub items_shown : ℕ → List ℕ → List (List ℕ) → Option Shown
 items_shown agents text items = elim (lost_in items) [
   | Some lost ↦ Some (Missed lost)
@@ -117,7 +123,8 @@ items_shown agents text items = elim (lost_in items) [
 abbrev pub other_shown : ℕ → List ℕ → Option Shown
 other_shown agents text = items_shown agents text (slice_split is_gap text)
 
--- what a line shows that is this as one of Linux's ftrace: the message of an event, nothing of another event, and else that of a line without one
+-- what a line shows that is this as one of Linux's ftrace: the message of an event, nothing of
+-- another event, and else that of a line without one
 abbrev pub traced_shown : ℕ → List ℕ → Traced → Option Shown
 traced_shown agents text (traced.Message instance k message) = event_shown agents instance k message
 traced_shown agents text traced.Unreadable = None

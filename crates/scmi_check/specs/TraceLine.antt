@@ -18,12 +18,14 @@ events_of (Some events) = Some (Events events)
 -- how many events are lost, by the item before the last one
 abbrev pub lost_number : (first : List ℕ) → List (List ℕ) → Option Lost
 lost_number first [] = None
-lost_number first (second ∷ items) = if bytes_eq second EVENTS.now then events_of (number_of 64 first) else None
+lost_number first (second ∷ items) = if bytes_eq second EVENTS.now
+    then events_of (number_of 64 first) else None
 
 -- how many events are lost, by the items after the word
 abbrev pub lost_behind : List (List ℕ) → Option Lost
 lost_behind [] = None
-lost_behind (first ∷ items) = if bytes_eq first EVENTS.now then Some Unknown else lost_number first items
+lost_behind (first ∷ items) = if bytes_eq first EVENTS.now then Some Unknown
+    else lost_number first items
 
 -- how many events are lost, if items report that: [LOST 12 EVENTS], or [LOST EVENTS]
 abbrev pub lost_in : List (List ℕ) → Option Lost
@@ -33,7 +35,8 @@ lost_in (item ∷ items) = if bytes_eq item LOST.now then lost_behind items else
 -- what follows the digits that a text begins with
 abbrev pub behind_all_digits : List ℕ → List ℕ
 behind_all_digits [] = []
-behind_all_digits (byte ∷ rest) = if is_ascii_digit byte then behind_all_digits rest else byte ∷ rest
+behind_all_digits (byte ∷ rest) = if is_ascii_digit byte then behind_all_digits rest
+    else byte ∷ rest
 
 -- the same, if there is one
 abbrev pub behind_digits : List ℕ → Option (List ℕ)

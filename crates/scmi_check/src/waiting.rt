@@ -44,7 +44,8 @@ pub(crate) fn place_of(waiting: &[Waiting], agent: u32) -> Option<usize>
 #[tactic(auto, unfolding(crate::specs::RecordText::taken_with))]
 pub(crate) fn take_with(waiting: &mut Vec<Waiting>, agent: u32, token: u16) -> Option<Waiting>
     ensures { MatchOption result
-        ((taken_with waiting.old.items agent token ≡ None) × (waiting.new.items ≡ waiting.old.items))
+        ((taken_with waiting.old.items agent token ≡ None)
+        × (waiting.new.items ≡ waiting.old.items))
         (λ one. taken_with waiting.old.items agent token ≡ Some (one, waiting.new.items)) }
 {
     match place_with(waiting, agent, token) {

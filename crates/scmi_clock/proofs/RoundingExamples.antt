@@ -38,7 +38,8 @@ even_steps-nearest_to_most = refl
 widest_step-lower_half : round_to rounding.Nearest widest_step 9223372036854775807 ≡ Some 0
 widest_step-lower_half = refl
 
-widest_step-upper_half : round_to rounding.Nearest widest_step 9223372036854775808 ≡ Some 18446744073709551615
+widest_step-upper_half : round_to rounding.Nearest widest_step 9223372036854775808
+    ≡ Some 18446744073709551615
 widest_step-upper_half = refl
 
 widest_step-down : round_to rounding.Down widest_step 18446744073709551614 ≡ Some 0

@@ -12,7 +12,8 @@ use Rattle.scmi_clock.specs.ClockTable.{enabled_now, only_reads, rate_later, rat
 
 -- a clock that is given a rate, or else one that is enabled or disabled
 abbrev pub clock_effect : Option (ℕ × ℕ) → Option (ℕ × Bool) → Option Effect
-clock_effect rate enabled = option_or (option_map (λ set. effect.Rate set.0 set.1) rate) (option_map (λ set. effect.Enabled set.0 set.1) enabled)
+clock_effect rate enabled = option_or (option_map (λ set. effect.Rate set.0 set.1) rate)
+    (option_map (λ set. effect.Enabled set.0 set.1) enabled)
 
 -- a clock and a rate that it is given later
 abbrev pub later_effect : ℕ × ℕ × Bool → Effect

@@ -16,9 +16,9 @@ use Rattle.scmi_codec.specs.Reply.{Check, bit_0, reply_unless, other_bits}
 use Rattle.scmi_clock.specs.Rounding.{round_to}
 use Rattle.scmi_clock.specs.SetFlags.{rounding_of, is_asynchronous, has_unknown_flags}
 
--- what the replies to a caller depend on, besides the board: of each clock its rate in Hz, whether it is enabled,
--- whether the caller may change it and whether it has a pending set; whether another pending set has room; and what
--- the caller's channels are
+-- what the replies to a caller depend on, besides the board: of each clock its rate in Hz, whether
+-- it is enabled, whether the caller may change it and whether it has a pending set; whether another
+-- pending set has room; and what the caller's channels are
 pub record ClockView : Type 0 where
   pub rate : ℕ → ℕ
   pub enabled : ℕ → Bool
@@ -40,9 +40,11 @@ abbrev pub rate_if : (free : Bool) → (asked : ℕ) → (rounded : Option ℕ) 
 rate_if true asked rounded = Some asked
 rate_if false asked rounded = rounded
 
--- the rate that a set's flags ask for, if there is one: of a free clock the rate that is asked for, whatever it is (own)
+-- the rate that a set's flags ask for, if there is one: of a free clock the rate that is asked for,
+-- whatever it is (own)
 abbrev pub rate_for : Board → (c flags asked : ℕ) → Option ℕ
-rate_for board c flags asked = rate_if (is_free board c) asked (rounded_rate (clock_at board c).rates flags asked)
+rate_for board c flags asked =
+    rate_if (is_free board c) asked (rounded_rate (clock_at board c).rates flags asked)
 
 -- the index is past the end of a list of rates; a triplet is described whatever the index (own)
 abbrev pub past_end : SupportedRates → ℕ → Bool
@@ -53,7 +55,8 @@ past_end (rates.steps low high step) index = false
 abbrev pub most_rates : AgentChannel → ℕ
 most_rates channel = (channel.words - 2) / 2
 
--- the flags word of rates: in bits 31 to 16 those that remain after this reply, in bits 11 to 0 those returned
+-- the flags word of rates: in bits 31 to 16 those that remain after this reply, in bits 11 to 0
+-- those returned
 abbrev pub rates_word : ℕ → ℕ → ℕ
 rates_word remaining returned = remaining * 2 ^ 16 + returned
 
@@ -61,16 +64,18 @@ rates_word remaining returned = remaining * 2 ^ 16 + returned
 abbrev pub triplet_word : ℕ
 triplet_word = 2 ^ 12 + 3
 
--- the flags word of a description, and its rates in Hz: those of a list from an index on that a channel has room for,
--- or the lowest, the highest and the step
+-- the flags word of a description, and its rates in Hz: those of a list from an index on that a
+-- channel has room for, or the lowest, the highest and the step
 abbrev pub rates_words : AgentChannel → SupportedRates → ℕ → List ℕ
 rates_words channel (rates.list list) index =
     let left = length list - index in
     let count = min (most_rates channel) left in
     rates_word (left - count) count ∷ flat_map rate_words (take count (drop index list))
-rates_words channel (rates.steps low high step) index = triplet_word ∷ flat_map rate_words (low ∷ high ∷ step ∷ [])
+rates_words channel (rates.steps low high step) index =
+    triplet_word ∷ flat_map rate_words (low ∷ high ∷ step ∷ [])
 
--- the most pending sets that an agent learns of: its share, none where the platform can't send to it (own)
+-- the most pending sets that an agent learns of: its share, none where the platform can't send to
+-- it (own)
 abbrev pub pending_announced : AgentChannel → ℕ
 pending_announced channel = if channel.one_way then 0 else channel.share
 
@@ -85,16 +90,18 @@ message_reply message = reply_unless ((not (is_listed 0x14 message), NotFound) �
 -- the reply to 0x3: in bit 0 whether the clock is enabled, and its name
 abbrev pub clock_attributes_reply : Board → Bool → ℕ → List ℕ
 clock_attributes_reply board enabled c =
-    reply_unless ((no_clock board c, NotFound) ∷ []) (0 ∷ (if enabled then 1 else 0) ∷ name_words (clock_at board c).name)
+    reply_unless ((no_clock board c, NotFound) ∷ [])
+    (0 ∷ (if enabled then 1 else 0) ∷ name_words (clock_at board c).name)
 
 -- the reply to 0x4: the rates from an index on, as many as the channel has room for
 abbrev pub describe_reply : Board → AgentChannel → ℕ → ℕ → List ℕ
 describe_reply board channel c index =
-    reply_unless ((no_clock board c, NotFound) ∷ (past_end (clock_at board c).rates index, OutOfRange) ∷ [])
+    reply_unless
+    ((no_clock board c, NotFound) ∷ (past_end (clock_at board c).rates index, OutOfRange) ∷ [])
     (0 ∷ rates_words channel (clock_at board c).rates index)
 
--- the checks of 0x5, in order (own): clock, flags and rate, a delayed response that could not be sent, permission,
--- pending sets
+-- the checks of 0x5, in order (own): clock, flags and rate, a delayed response that could not be
+-- sent, permission, pending sets
 abbrev pub set_checks : Board → AgentChannel → Bool → Bool → Bool → ℕ → ℕ → ℕ → List Check
 set_checks board channel may busy room flags c rate =
     (no_clock board c, NotFound)
@@ -114,7 +121,8 @@ disables_kept board c attributes = is_kept board (resource.Clock c) && not (bit_
 
 -- the checks of 0x7, in order (own): clock, attributes, whether the caller may make the change
 abbrev pub config_checks : Board → Bool → ℕ → ℕ → List Check
-config_checks board may c attributes = (no_clock board c, NotFound) ∷ (other_bits attributes, InvalidParameters) ∷ (not may, Denied) ∷ []
+config_checks board may c attributes = (no_clock board c, NotFound)
+    ∷ (other_bits attributes, InvalidParameters) ∷ (not may, Denied) ∷ []
 
 -- the reply to a command of a caller (DEN0056B, clock management protocol)
 unfoldable pub clock_reply : Board → ClockView → ClockCommand → List ℕ
@@ -123,6 +131,8 @@ clock_reply board v clock.Attributes = attributes_reply board v.channel
 clock_reply board v (clock.MessageAttributes message) = message_reply message
 clock_reply board v (clock.ClockAttributes c) = clock_attributes_reply board (v.enabled c) c
 clock_reply board v (clock.Describe c index) = describe_reply board v.channel c index
-clock_reply board v (clock.SetRate flags c rate) = reply_unless (set_checks board v.channel (v.may c) (v.busy c) v.room flags c rate) (0 ∷ [])
+clock_reply board v (clock.SetRate flags c rate) =
+    reply_unless (set_checks board v.channel (v.may c) (v.busy c) v.room flags c rate) (0 ∷ [])
 clock_reply board v (clock.GetRate c) = rate_reply board (v.rate c) c
-clock_reply board v (clock.Config c attributes) = reply_unless (config_checks board (v.may c && not (disables_kept board c attributes)) c attributes) (0 ∷ [])
+clock_reply board v (clock.Config c attributes) = reply_unless
+    (config_checks board (v.may c && not (disables_kept board c attributes)) c attributes) (0 ∷ [])

@@ -32,7 +32,8 @@ enabled_at table c = get_or table.enabled c false
 
 -- whether a caller may change a clock
 abbrev pub may_change : Board → Permissions → ℕ → ℕ → Bool
-may_change board permissions caller c = may board (λ device. is_allowed permissions caller device) (resource.Clock c)
+may_change board permissions caller c =
+    may board (λ device. is_allowed permissions caller device) (resource.Clock c)
 
 -- whether a clock has a pending set
 abbrev pub is_pending : Load → ℕ → Bool
@@ -52,7 +53,8 @@ view_of board permissions table load caller =
 
 -- the reply to a caller's command, by the permissions, the table, and what pending sets leave free
 abbrev pub reply_to : Board → Permissions → ClockTables → Load → ℕ → ClockCommand → List ℕ
-reply_to board permissions table load caller command = clock_reply board (view_of board permissions table load caller) command
+reply_to board permissions table load caller command =
+    clock_reply board (view_of board permissions table load caller) command
 
 -- the rate that a set gives a clock: a supported one, or of a free clock the one that is asked for
 abbrev pub set_rate : Board → ℕ → ℕ → ℕ → ℕ
@@ -60,13 +62,15 @@ set_rate board flags c rate = unwrap_or (rate_for board c flags rate) 0
 
 -- the clock and rate that a successful command sets at once
 abbrev pub rate_now : Board → ClockCommand → Option (ℕ × ℕ)
-rate_now board (clock.SetRate flags c rate) = if is_asynchronous flags then None else Some (c, set_rate board flags c rate)
+rate_now board (clock.SetRate flags c rate) = if is_asynchronous flags then None
+    else Some (c, set_rate board flags c rate)
 rate_now board _ = None
 
 -- the clock and rate that it accepts for later, with whether a delayed response is wanted
 abbrev pub rate_later : Board → ClockCommand → Option (ℕ × ℕ × Bool)
 rate_later board (clock.SetRate flags c rate) =
-    if is_asynchronous flags then Some (c, set_rate board flags c rate, is_response_wanted flags) else None
+    if is_asynchronous flags
+    then Some (c, set_rate board flags c rate, is_response_wanted flags) else None
 rate_later board _ = None
 
 -- the clock whose rate a command sets
@@ -98,16 +102,20 @@ only_reads _ = true
 -- the reply to a caller's set, by the permissions and by what pending sets leave free
 abbrev pub set_words : Board → Permissions → ℕ → Load → (flags c rate : ℕ) → List ℕ
 set_words board permissions caller load flags c rate =
-    reply_unless (set_checks board (channel_of board caller) (may_change board permissions caller c) (is_pending load c) load.room flags c rate) (0 ∷ [])
+    reply_unless (set_checks board (channel_of board caller) (may_change board permissions caller c)
+    (is_pending load c) load.room flags c rate) (0 ∷ [])
 
--- whether a caller may configure a clock so: it may change the clock, and the board does not keep it from that
+-- whether a caller may configure a clock so: it may change the clock, and the board does not keep
+-- it from that
 abbrev pub may_configure : Board → Permissions → (caller c attributes : ℕ) → Bool
-may_configure board permissions caller c attributes = may_change board permissions caller c && not (disables_kept board c attributes)
+may_configure board permissions caller c attributes =
+    may_change board permissions caller c && not (disables_kept board c attributes)
 
 -- the reply to a caller's configuration, by the permissions
 abbrev pub config_words : Board → Permissions → ℕ → (c attributes : ℕ) → List ℕ
 config_words board permissions caller c attributes =
-    reply_unless (config_checks board (may_configure board permissions caller c attributes) c attributes) (0 ∷ [])
+    reply_unless (config_checks board
+    (may_configure board permissions caller c attributes) c attributes) (0 ∷ [])
 
 -- the rates of a table after one was set, if one was
 abbrev pub HasSet : Option (ℕ × ℕ) → ClockTables → ClockTables → Type 0
@@ -115,7 +123,8 @@ HasSet set table after = (c : ℕ) → c < CLOCKS → rate_at after c ≡ set_to
 
 -- which clocks of a table are enabled after one was configured, if one was
 abbrev pub HasConfigured : Option (ℕ × Bool) → ClockTables → ClockTables → Type 0
-HasConfigured set table after = (c : ℕ) → c < CLOCKS → enabled_at after c ≡ enabled_to set c (enabled_at table c)
+HasConfigured set table after = (c : ℕ) → c < CLOCKS
+    → enabled_at after c ≡ enabled_to set c (enabled_at table c)
 
 -- the clock that was set, if one was, is the board's
 abbrev pub IsKnown : {A : Type 0} → Board → Option (ℕ × A) → Type 0

@@ -18,11 +18,13 @@ pub record IsRoundedUp (rates : SupportedRates) (asked rate : ℕ) : Type 0 wher
   pub at_least : asked ≤ rate
   pub none_between : (r : ℕ) → IsSupported rates r → asked ≤ r → rate ≤ r
 
--- nearest: a supported rate such that none is closer to the asked one, and none that is as close is lower (own)
+-- nearest: a supported rate such that none is closer to the asked one, and none that is as close is
+-- lower (own)
 pub record IsNearest (rates : SupportedRates) (asked rate : ℕ) : Type 0 where
   pub supported : IsSupported rates rate
   pub closest : (r : ℕ) → IsSupported rates r → abs_diff asked rate ≤ abs_diff asked r
-  pub lower_of_two : (r : ℕ) → IsSupported rates r → abs_diff asked r ≡ abs_diff asked rate → rate ≤ r
+  pub lower_of_two : (r : ℕ) → IsSupported rates r
+      → abs_diff asked r ≡ abs_diff asked rate → rate ≤ r
 
 -- the rate that a rounding gives
 abbrev pub IsRounded : Rounding → SupportedRates → ℕ → ℕ → Type 0
@@ -48,7 +50,8 @@ rate_above rates asked = find (λ r. nat_le asked r) (members rates)
 abbrev pub nearer : ℕ → Option ℕ → Option ℕ → Option ℕ
 nearer asked None above = above
 nearer asked (Some below) None = Some below
-nearer asked (Some below) (Some above) = if nat_le (asked - below) (above - asked) then Some below else Some above
+nearer asked (Some below) (Some above) = if nat_le (asked - below) (above - asked) then Some below
+    else Some above
 
 -- the nearest rate, by the rates below and above
 abbrev pub rate_nearest : SupportedRates → ℕ → Option ℕ

@@ -7,7 +7,8 @@ use Rattle.scmi_clock.specs.declared.rounding.Rounding.{Rounding}
 use Rattle.scmi_clock.specs.declared.rounding.Rounding.TheVariants as rounding
 use Rattle.scmi_clock.specs.declared.set_flags.SetFlags.{SetFlags}
 
--- bit 3 asks for the nearest rate, and else bit 2 for rounding up (own: the platform's choice is the nearest)
+-- bit 3 asks for the nearest rate, and else bit 2 for rounding up (own: the platform's choice is
+-- the nearest)
 abbrev pub rounding_of : ℕ → Rounding
 rounding_of flags =
     if flags / 2 ^ 3 % 2 == 1 then rounding.Nearest
@@ -30,4 +31,8 @@ has_unknown_flags flags = nat_le 16 flags
 abbrev pub set_flags : ℕ → Result SetFlags Status
 set_flags flags =
     if has_unknown_flags flags then Err InvalidParameters
-    else Ok (record { rounding = rounding_of flags; asynchronous = is_asynchronous flags; response_wanted = is_response_wanted flags })
+    else Ok (record {
+      rounding = rounding_of flags;
+      asynchronous = is_asynchronous flags;
+      response_wanted = is_response_wanted flags;
+    })

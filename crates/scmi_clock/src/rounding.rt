@@ -60,7 +60,8 @@ fn above(rates: &Rates, asked: u64) -> Option<u64>
 #[inline(always)]
 fn nearest(rates: &Rates, asked: u64) -> Option<u64>
     requires { HasValidRates (rates_of rates.now) }
-    ensures { result ≡ nearer asked (rate_below (rates_of rates.now) asked) (rate_above (rates_of rates.now) asked) }
+    ensures { result ≡ nearer asked (rate_below (rates_of rates.now) asked)
+        (rate_above (rates_of rates.now) asked) }
 {
     match (below(rates, asked), above(rates, asked)) {
         (None, up) => up,

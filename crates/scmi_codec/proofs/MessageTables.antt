@@ -1,4 +1,5 @@
--- What the tables of messages say, as it is written in the standard, and that each command's message is in them.
+-- What the tables of messages say, as it is written in the standard, and that each command's
+-- message is in them.
 use Rattle.std.proofs.Common.{◌≡◌, ℕ, List, [], ◌∷◌, Some, codes, length, map, refl}
 use Rattle.scmi_codec.specs.BaseCommand.{base_id, base_words}
 use Rattle.scmi_codec.specs.PowerCommand.{power_id, power_words}
@@ -54,27 +55,31 @@ is_listed (Base c) = base_listed c
 is_listed (Power c) = power_listed c
 is_listed (Clock c) = clock_listed c
 
--- of each message its id, and the words of its payload, of its reply and of its delayed response behind their
--- status; of a list as many as it has at least
+-- of each message its id, and the words of its payload, of its reply and of its delayed response
+-- behind their status; of a list as many as it has at least
 words_listed : ℕ → List (ℕ × ℕ × ℕ × ℕ)
-words_listed protocol = map (λ row. (row.id, words_of row.asks, words_of row.gives, words_of row.later)) (rows_of protocol)
+words_listed protocol = map
+    (λ row. (row.id, words_of row.asks, words_of row.gives, words_of row.later)) (rows_of protocol)
 
 base_messages
     : words_listed 0x10
-    ≡ (0x0, 0, 1, 0) ∷ (0x1, 0, 1, 0) ∷ (0x2, 1, 1, 0) ∷ (0x3, 0, 4, 0) ∷ (0x4, 0, 4, 0) ∷ (0x5, 0, 1, 0) ∷ (0x6, 1, 1, 0) ∷ (0x7, 1, 5, 0)
+    ≡ (0x0, 0, 1, 0) ∷ (0x1, 0, 1, 0) ∷ (0x2, 1, 1, 0) ∷ (0x3, 0, 4, 0) ∷ (0x4, 0, 4, 0)
+    ∷ (0x5, 0, 1, 0) ∷ (0x6, 1, 1, 0) ∷ (0x7, 1, 5, 0)
     ∷ (0x9, 3, 0, 0) ∷ (0xa, 4, 0, 0) ∷ (0xb, 2, 0, 0) ∷ []
 unfolding words_listed rows_of
 base_messages = refl
 
 power_messages
     : words_listed 0x11
-    ≡ (0x0, 0, 1, 0) ∷ (0x1, 0, 4, 0) ∷ (0x2, 1, 1, 0) ∷ (0x3, 1, 5, 0) ∷ (0x4, 3, 0, 2) ∷ (0x5, 1, 1, 0) ∷ (0x6, 2, 0, 0) ∷ []
+    ≡ (0x0, 0, 1, 0) ∷ (0x1, 0, 4, 0) ∷ (0x2, 1, 1, 0) ∷ (0x3, 1, 5, 0) ∷ (0x4, 3, 0, 2)
+    ∷ (0x5, 1, 1, 0) ∷ (0x6, 2, 0, 0) ∷ []
 unfolding words_listed rows_of
 power_messages = refl
 
 clock_messages
     : words_listed 0x14
-    ≡ (0x0, 0, 1, 0) ∷ (0x1, 0, 1, 0) ∷ (0x2, 1, 1, 0) ∷ (0x3, 1, 5, 0) ∷ (0x4, 2, 1, 0) ∷ (0x5, 4, 0, 3) ∷ (0x6, 1, 2, 0) ∷ (0x7, 2, 0, 0) ∷ []
+    ≡ (0x0, 0, 1, 0) ∷ (0x1, 0, 1, 0) ∷ (0x2, 1, 1, 0) ∷ (0x3, 1, 5, 0) ∷ (0x4, 2, 1, 0)
+    ∷ (0x5, 4, 0, 3) ∷ (0x6, 1, 2, 0) ∷ (0x7, 2, 0, 0) ∷ []
 unfolding words_listed rows_of
 clock_messages = refl
 
@@ -82,6 +87,7 @@ clock_messages = refl
 protocols_listed : List (ℕ × List ℕ × ℕ)
 protocols_listed = map (λ row. (row.id, row.name, row.version)) protocols
 
-protocol_rows : protocols_listed ≡ (0x10, codes "base", 0x00020000) ∷ (0x11, codes "power", 0x00020000) ∷ (0x14, codes "clock", 0x00010000) ∷ []
+protocol_rows : protocols_listed ≡ (0x10, codes "base", 0x00020000)
+    ∷ (0x11, codes "power", 0x00020000) ∷ (0x14, codes "clock", 0x00010000) ∷ []
 unfolding protocols_listed
 protocol_rows = refl

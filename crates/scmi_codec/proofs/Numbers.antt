@@ -1,4 +1,5 @@
--- The numbers of the standard and of the profile that code and definitions share, each as it is written there.
+-- The numbers of the standard and of the profile that code and definitions share, each as it is
+-- written there.
 use Rattle.std.proofs.Common.{◌≡◌, ℕ, List, [], ◌∷◌, codes, map, refl}
 use Rattle.scmi_codec.specs.Status.{status_word, status_name}
 use Rattle.scmi_codec.specs.declared.area.TheConstants.{AREA_BYTES}
@@ -48,11 +49,16 @@ success : SUCCESS ≡ 0
 success = refl
 
 status_words
-    : map status_word (Success ∷ NotSupported ∷ InvalidParameters ∷ Denied ∷ NotFound ∷ OutOfRange ∷ Busy ∷ CommsError ∷ GenericError ∷ HardwareError ∷ ProtocolError ∷ [])
-    ≡ 0 ∷ 0xffffffff ∷ 0xfffffffe ∷ 0xfffffffd ∷ 0xfffffffc ∷ 0xfffffffb ∷ 0xfffffffa ∷ 0xfffffff9 ∷ 0xfffffff8 ∷ 0xfffffff7 ∷ 0xfffffff6 ∷ []
+    : map status_word (Success ∷ NotSupported ∷ InvalidParameters ∷ Denied ∷ NotFound ∷ OutOfRange
+    ∷ Busy ∷ CommsError ∷ GenericError ∷ HardwareError ∷ ProtocolError ∷ [])
+    ≡ 0 ∷ 0xffffffff ∷ 0xfffffffe ∷ 0xfffffffd ∷ 0xfffffffc ∷ 0xfffffffb ∷ 0xfffffffa ∷ 0xfffffff9
+    ∷ 0xfffffff8 ∷ 0xfffffff7 ∷ 0xfffffff6 ∷ []
 status_words = refl
 
 status_names
-    : map status_name (Success ∷ NotSupported ∷ InvalidParameters ∷ Denied ∷ NotFound ∷ OutOfRange ∷ Busy ∷ CommsError ∷ GenericError ∷ HardwareError ∷ ProtocolError ∷ [])
-    ≡ codes "SUCCESS" ∷ codes "NOT_SUPPORTED" ∷ codes "INVALID_PARAMETERS" ∷ codes "DENIED" ∷ codes "NOT_FOUND" ∷ codes "OUT_OF_RANGE" ∷ codes "BUSY" ∷ codes "COMMS_ERROR" ∷ codes "GENERIC_ERROR" ∷ codes "HARDWARE_ERROR" ∷ codes "PROTOCOL_ERROR" ∷ []
+    : map status_name (Success ∷ NotSupported ∷ InvalidParameters ∷ Denied ∷ NotFound ∷ OutOfRange
+    ∷ Busy ∷ CommsError ∷ GenericError ∷ HardwareError ∷ ProtocolError ∷ [])
+    ≡ codes "SUCCESS" ∷ codes "NOT_SUPPORTED" ∷ codes "INVALID_PARAMETERS"
+    ∷ codes "DENIED" ∷ codes "NOT_FOUND" ∷ codes "OUT_OF_RANGE" ∷ codes "BUSY" ∷ codes "COMMS_ERROR"
+    ∷ codes "GENERIC_ERROR" ∷ codes "HARDWARE_ERROR" ∷ codes "PROTOCOL_ERROR" ∷ []
 status_names = refl

@@ -87,7 +87,8 @@ IsUntouched ChannelError i = (i < 0x04) ⊎ (0x08 ≤ i)
 -- an area after a message was written into it, and then its status word
 abbrev pub area_after_write : ℕ → Message → List ℕ → List ℕ
 area_after_write status m area =
-    put_word 0x04 status (put_words 0x1C m.payload.items (put_word 0x18 (header_word m.header) (put_word 0x14 (4 + 4 * length m.payload.items) area)))
+    put_word 0x04 status (put_words 0x1C m.payload.items (put_word 0x18 (header_word m.header)
+    (put_word 0x14 (4 + 4 * length m.payload.items) area)))
 
 -- an area after a caller posted a message: the channel is no longer free
 abbrev pub area_after_post : Message → List ℕ → List ℕ

@@ -15,7 +15,8 @@ base_table = table_of base_rows
     ∷ (λ w. base.Protocols (slice_index w 0))
     ∷ (λ w. base.Agent (slice_index w 0))
     ∷ (λ w. base.Permit (slice_index w 0) (slice_index w 1) (slice_index w 2))
-    ∷ (λ w. base.PermitProtocol (slice_index w 0) (slice_index w 1) (slice_index w 2) (slice_index w 3))
+    ∷ (λ w. base.PermitProtocol (slice_index w 0) (slice_index w 1) (slice_index w 2)
+    (slice_index w 3))
     ∷ (λ w. base.ResetAgent (slice_index w 0) (slice_index w 1))
     ∷ [])
 
@@ -43,6 +44,7 @@ base_words (base.MessageAttributes message) = message ∷ []
 base_words (base.Protocols skip) = skip ∷ []
 base_words (base.Agent agent) = agent ∷ []
 base_words (base.Permit agent device flags) = agent ∷ device ∷ flags ∷ []
-base_words (base.PermitProtocol agent device protocol flags) = agent ∷ device ∷ protocol ∷ flags ∷ []
+base_words (base.PermitProtocol agent device protocol flags) =
+    agent ∷ device ∷ protocol ∷ flags ∷ []
 base_words (base.ResetAgent agent flags) = agent ∷ flags ∷ []
 base_words _ = []

@@ -13,9 +13,11 @@ use Rattle.scmi_codec.specs.declared.frame.Answer.TheVariants.{Reply, Released, 
 abbrev pub channel_bytes : ℕ → ℕ
 channel_bytes words = 0x1C + 4 * words
 
--- whether a channel's area may have this many bytes: 28 + 4k, k from the least to the most words of a payload
+-- whether a channel's area may have this many bytes: 28 + 4k, k from the least to the most words of
+-- a payload
 abbrev pub is_channel_size : ℕ → Bool
-is_channel_size n = nat_le (channel_bytes LEAST_PAYLOAD_WORDS) n && (nat_le n (channel_bytes PAYLOAD_WORDS) && (n % 4 == 0))
+is_channel_size n = nat_le (channel_bytes LEAST_PAYLOAD_WORDS) n
+    && (nat_le n (channel_bytes PAYLOAD_WORDS) && (n % 4 == 0))
 
 -- how many payload words an area of this many bytes has
 abbrev pub channel_words : ℕ → ℕ
@@ -42,4 +44,5 @@ answer_words ChannelError = 0
 -- whether this many payload words may be written into an area, and why not
 abbrev pub room_for : ℕ → List ℕ → Result ⊤ ChannelAreaError
 room_for words area =
-    if is_channel_size (length area) then (if nat_le words (capacity area) then Ok tt else Err TooLong) else Err WrongSize
+    if is_channel_size (length area)
+    then (if nat_le words (capacity area) then Ok tt else Err TooLong) else Err WrongSize

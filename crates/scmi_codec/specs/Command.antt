@@ -34,7 +34,8 @@ command_words (Clock c) = clock_words c
 
 -- the header of a command of a protocol, with reserved bits and type 0
 abbrev pub protocol_header : ℕ → ℕ → ℕ → HeaderFields
-protocol_header protocol token id = record { reserved = 0; token = token; protocol = protocol; kind = 0; id = id }
+protocol_header protocol token id =
+    record { reserved = 0; token = token; protocol = protocol; kind = 0; id = id }
 
 -- the header of a command that carries a token
 abbrev pub command_header : Command → ℕ → HeaderFields

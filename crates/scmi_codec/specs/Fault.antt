@@ -41,7 +41,8 @@ named row = (row.name.now, row.status)
 
 -- the fault of the first status that has this name, if hardware says it
 abbrev pub fault_in : List ℕ → List (List ℕ × Status) → Option Fault
-fault_in name rows = option_and_then (λ row. fault_of row.1) (find (λ row. bytes_eq row.0 name) rows)
+fault_in name rows =
+    option_and_then (λ row. fault_of row.1) (find (λ row. bytes_eq row.0 name) rows)
 
 -- the names of the statuses
 abbrev pub named_statuses : List (List ℕ × Status)

@@ -1,4 +1,5 @@
--- What the tables of messages say: each is a constant of the program, which is looked up here as there.
+-- What the tables of messages say: each is a constant of the program, which is looked up here as
+-- there.
 use Rattle.std.specs.Prelude.{ℕ, ◌==◌, ◌+◌, if◌then◌else◌, Bool, List, [], ◌∷◌, map, Option, Some, None}
 use Rattle.std.specs.Borrow.{Bor}
 use Rattle.std.specs.Option.{option_map, option_map_or, is_some}
@@ -11,7 +12,8 @@ use Rattle.scmi_codec.specs.declared.messages.MessageRow.{MessageRow}
 use Rattle.scmi_codec.specs.declared.protocols.ProtocolRow.{ProtocolRow}
 use Rattle.scmi_codec.specs.declared.protocols.TheConstants.{PROTOCOLS}
 
--- a message: id, name, the parts of its payload, of its reply and of its delayed response behind their status
+-- a message: id, name, the parts of its payload, of its reply and of its delayed response behind
+-- their status
 abbrev pub Said : Type 0
 Said = MessageRow (List ℕ) (List Part)
 
@@ -21,7 +23,13 @@ HeldRow = MessageRow (Bor (List ℕ)) (Bor (List Part))
 
 -- what a row says
 abbrev pub said : HeldRow → Said
-said row = record { id = row.id; name = row.name.now; asks = row.asks.now; gives = row.gives.now; later = row.later.now }
+said row = record {
+  id = row.id;
+  name = row.name.now;
+  asks = row.asks.now;
+  gives = row.gives.now;
+  later = row.later.now;
+}
 
 -- a protocol: id, short name, version, and its messages
 abbrev pub Protocol : Type 0
@@ -33,11 +41,27 @@ HeldProtocol = ProtocolRow (Bor (List ℕ)) (Bor (List HeldRow))
 
 -- what a protocol's row says
 abbrev pub protocol_said : HeldProtocol → Protocol
-protocol_said row = record { id = row.id; name = row.name.now; version = row.version; messages = map said row.messages.now }
+protocol_said row = record {
+  id = row.id;
+  name = row.name.now;
+  version = row.version;
+  messages = map said row.messages.now;
+}
 
 -- the protocols of the profile
 abbrev pub protocols : List Protocol
-protocols = map (λ p. record { id = p.id; name = p.name.now; version = p.version; messages = map (λ r. record { id = r.id; name = r.name.now; asks = r.asks.now; gives = r.gives.now; later = r.later.now }) p.messages.now }) PROTOCOLS
+protocols = map (λ p. record {
+  id = p.id;
+  name = p.name.now;
+  version = p.version;
+  messages = map (λ r. record {
+    id = r.id;
+    name = r.name.now;
+    asks = r.asks.now;
+    gives = r.gives.now;
+    later = r.later.now;
+  }) p.messages.now;
+}) PROTOCOLS
 
 -- the first row of an id
 abbrev pub protocol_in : ℕ → List Protocol → Option Protocol

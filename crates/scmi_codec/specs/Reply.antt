@@ -1,4 +1,5 @@
--- A reply by its checks: the status of the first that fails, or else the row of the command's table.
+-- A reply by its checks: the status of the first that fails, or else the row of the command's
+-- table.
 use Rattle.std.specs.Prelude.{◌≡◌, ◌≢◌, ℕ, Bool, List, [], ◌∷◌, if◌then◌else◌, ◌==◌, ◌%◌, nat_lt, Result, Ok, Err, MatchResult}
 use Rattle.scmi_codec.specs.Status.{status_word}
 use Rattle.scmi_codec.specs.declared.status.Status.{Status}
@@ -11,11 +12,14 @@ Check = Bool × Status
 -- the status of the first check that fails, alone, or else the row
 abbrev pub reply_unless : List Check → List ℕ → List ℕ
 reply_unless [] row = row
-reply_unless (check ∷ checks) row = if check.0 then status_word check.1 ∷ [] else reply_unless checks row
+reply_unless (check ∷ checks) row = if check.0 then status_word check.1 ∷ []
+    else reply_unless checks row
 
--- what checks decide, in the words of a reply: SUCCESS alone if each passes, or else the status of the first that fails
+-- what checks decide, in the words of a reply: SUCCESS alone if each passes, or else the status of
+-- the first that fails
 abbrev pub AreDecided : {T : Type 0} → List ℕ → Result T Status → Type 0
-AreDecided words r = MatchResult r (λ _. words ≡ 0 ∷ []) (λ status. (words ≡ status_word status ∷ []) × (status ≢ Success))
+AreDecided words r = MatchResult r (λ _. words ≡ 0 ∷ [])
+    (λ status. (words ≡ status_word status ∷ []) × (status ≢ Success))
 
 -- whether bit 0 of a word of flags is set
 abbrev pub bit_0 : ℕ → Bool

@@ -4,7 +4,8 @@ use Rattle.std.specs.List.{find, list_any}
 use Rattle.scmi_codec.specs.declared.status.Status.{Status}
 use Rattle.scmi_codec.specs.declared.status.Status.TheVariants.{ProtocolError, NotSupported}
 
--- a row of a protocol's table: message id, number of payload words, and the command that the words give
+-- a row of a protocol's table: message id, number of payload words, and the command that the words
+-- give
 abbrev pub Row : Type 0 → Type 0
 Row C = ℕ × ℕ × (List ℕ → C)
 
@@ -13,7 +14,8 @@ abbrev pub row_of : {C : Type 0} → List ℕ → Option (Row C) → Result C St
 row_of words None = Err NotSupported
 row_of words (Some row) = if length words == row.1 then Ok (row.2 words) else Err ProtocolError
 
--- the command of a message id and payload words by a table, or the status of the first check that fails
+-- the command of a message id and payload words by a table, or the status of the first check that
+-- fails
 abbrev pub from_table : {C : Type 0} → List (Row C) → ℕ → List ℕ → Result C Status
 from_table rows id words = row_of words (find (λ row. row.0 == id) rows)
 

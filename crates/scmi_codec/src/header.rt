@@ -49,7 +49,13 @@ impl Model for Header {
       id = h.id;
     }) };
 
-    ghost inverse = { λ h. record { reserved = h.reserved; token = h.token; protocol = h.protocol; kind = h.kind; id = h.id } };
+    ghost inverse = { λ h. record {
+      reserved = h.reserved;
+      token = h.token;
+      protocol = h.protocol;
+      kind = h.kind;
+      id = h.id;
+    } };
 }
 
 // What a place without a message contains.

@@ -1,4 +1,5 @@
--- What a success that leaves a set pending says: it is its caller's, it met room, and the platform can send to it.
+-- What a success that leaves a set pending says: it is its caller's, it met room, and the platform
+-- can send to it.
 use Rattle.std.proofs.Common.{◌≡◌, ℕ, Bool, true, false, [], Option, Some, None, Result, Ok, Err, option_map, refl, sym, ap, if◌then◌else◌}
 use Rattle.std.specs.List.{All}
 use Rattle.std.specs.Option.{option_and_then, option_map_or, option_to_list}
@@ -16,15 +17,19 @@ use Rattle.scmi_core.specs.Situation.{Situation, has_room}
 use Rattle.scmi_core.specs.declared.pending_set.PendingSet.{PendingSet}
 use Rattle.scmi_core.proofs.CommandLaws.{command_laws}
 
-pub then_some : {A B : Type 0} (b : Bool) (o : Option A) (f : A → Option B) (y : B) → option_and_then f (if b then o else None) ≡ Some y → (b ≡ true) × (option_and_then f o ≡ Some y)
+pub then_some : {A B : Type 0} (b : Bool) (o : Option A) (f : A → Option B) (y : B)
+    → option_and_then f (if b then o else None) ≡ Some y
+    → (b ≡ true) × (option_and_then f o ≡ Some y)
 then_some true o f y e = (refl, e)
 then_some false o f y e = absurd (cc)
 
-pub mapped : {A B : Type 0} (f : A → B) (o : Option A) (y : B) → option_map f o ≡ Some y → (x : A) × (o ≡ Some x) × (f x ≡ y)
+pub mapped : {A B : Type 0} (f : A → B) (o : Option A) (y : B) → option_map f o ≡ Some y
+    → (x : A) × (o ≡ Some x) × (f x ≡ y)
 mapped f None y e = absurd (cc)
 mapped f (Some x) y e = (x, refl, ap (λ o. option_map_or (λ z. z) o y) e)
 
-pub All-option : {X : Type 0} (P : X → Type 0) (o : Option X) → ((x : X) → o ≡ Some x → P x) → All P (option_to_list o)
+pub All-option : {X : Type 0} (P : X → Type 0) (o : Option X) → ((x : X) → o ≡ Some x → P x)
+    → All P (option_to_list o)
 All-option P None each = All-nil P
 All-option P (Some x) each = All-cons P x [] (each x refl) (All-nil P)
 
@@ -38,14 +43,18 @@ module _ (board : Board) (a : ℕ) (header : HeaderFields) (s : Situation) (p : 
   abbrev leaves : Option Success → Type 0
   leaves o = option_and_then (acceptance board) o ≡ Some p
 
-  pub accepted : (r : Result codec.Command Status) → leaves (if begins_with_success (reply_words board a s r) then success_with a header r else None) → IsAccepted board a s p
+  pub accepted : (r : Result codec.Command Status) → leaves (if begins_with_success
+      (reply_words board a s r) then success_with a header r else None) → IsAccepted board a s p
   unfolding reply_words
-  accepted (Err e) is = absurd (let gone = (then_some (begins_with_success (reply_words board a s (Err e))) None (acceptance board) p is).1 in cc)
+  accepted (Err e) is = absurd (let gone = (then_some
+      (begins_with_success (reply_words board a s (Err e))) None (acceptance board) p is).1 in cc)
   accepted (Ok c) is =
-      let two = then_some (begins_with_success (reply_words board a s (Ok c))) (success_with a header (Ok c)) (acceptance board) p is in
+      let two = then_some (begins_with_success (reply_words board a s (Ok c)))
+      (success_with a header (Ok c)) (acceptance board) p is in
       let set = mapped (made_pending a header) (later_of board c) p two.1 in
       let effect = setting_effect set.0.setting in
-      let later : later_effect_of board c ≡ Some effect = ap (option_map (λ l. setting_effect l.setting)) set.1 in
+      let later : later_effect_of board c ≡ Some effect =
+      ap (option_map (λ l. setting_effect l.setting)) set.1 in
       record {
         own = sym (ap (λ q. q.agent) set.2);
         room = (command_laws board a).free board s c effect two.0 later;

@@ -13,11 +13,13 @@ use Rattle.scmi_core.specs.Reply.{failed_answer}
 use Rattle.scmi_core.specs.Agents.{frame_from, frames_of, answer_for, answers_to}
 
 module _ (board : Board) (a : ℕ) where
-  if_one : (own : Bool) (f : Frame) (x : Answer) (fs : List Frame) → length (if own then x ∷ [] else []) + length fs ≡ length (cons_option (if own then Some f else None) fs)
+  if_one : (own : Bool) (f : Frame) (x : Answer) (fs : List Frame) → length (if own then x ∷ []
+      else []) + length fs ≡ length (cons_option (if own then Some f else None) fs)
   if_one true f x fs = omega arith
   if_one false f x fs = omega arith
 
-  one : (before : List Event) (e : Event) (fs : List Frame) → length (answer_for board a before e) + length fs ≡ length (cons_option (frame_from a e) fs)
+  one : (before : List Event) (e : Event) (fs : List Frame)
+      → length (answer_for board a before e) + length fs ≡ length (cons_option (frame_from a e) fs)
   one before (Command b f) fs = if_one (a == b) f (answer_to board b f before) fs
   one before Advance fs = omega arith
   one before (Sent b) fs = omega arith
@@ -29,17 +31,21 @@ module _ (board : Board) (a : ℕ) where
   one before (Reported effect) fs = omega arith
 
   from : (before : List Event) (so_far : List Answer) (h : List Event)
-      → length (fold_with_prefix (λ b xs e. xs ++ answer_for board a b e) before so_far h) ≡ length so_far + length (filter_map (frame_from a) h)
+      → length (fold_with_prefix (λ b xs e. xs ++ answer_for board a b e) before so_far h)
+      ≡ length so_far + length (filter_map (frame_from a) h)
   unfolding fold_with_prefix
   from before so_far [] = omega arith
   from before so_far (e ∷ h) =
       let each = one before e (filter_map (frame_from a) h) in
-      let counted : length (so_far ++ answer_for board a before e) + length (filter_map (frame_from a) h) ≡ length so_far + length (cons_option (frame_from a e) (filter_map (frame_from a) h))
+      let counted : length
+      (so_far ++ answer_for board a before e) + length (filter_map (frame_from a) h)
+      ≡ length so_far + length (cons_option (frame_from a e) (filter_map (frame_from a) h))
       = omega (arith, length-append so_far (answer_for board a before e), each) in
       from (before ++ e ∷ []) (so_far ++ answer_for board a before e) h ∙ counted
 
   pub answers-length : (h : List Event) → length (answers_to board a h) ≡ length (frames_of a h)
   unfolding frames_of answers_to
   answers-length h =
-      let none_before : 0 + length (filter_map (frame_from a) h) ≡ length (filter_map (frame_from a) h) = omega arith in
+      let none_before : 0 + length (filter_map (frame_from a) h)
+      ≡ length (filter_map (frame_from a) h) = omega arith in
       from [] [] h ∙ none_before

@@ -15,14 +15,17 @@ use Rattle.scmi_core.specs.Reply.{fits_channel, reply_words}
 use Rattle.scmi_core.specs.Situation.{Situation}
 use Rattle.scmi_core.specs.Value.{change_of}
 
-module _ (board : Board) (a : ℕ) (m : Message) (s : Situation) (unset : is_set_header m.header ≡ false) where
+module _ (board : Board) (a : ℕ) (m : Message) (s : Situation)
+    (unset : is_set_header m.header ≡ false) where
   abbrev effect_with : Result Command Status → Option Effect
-  effect_with r = option_map effect_of (change_of board (success_of a m.header r (reply_words board a s r)) None)
+  effect_with r = option_map effect_of
+      (change_of board (success_of a m.header r (reply_words board a s r)) None)
 
   read-none : effect_with (command_of m) ≡ None
   read-none = search (rules, tests)
 
-  on-none : (missing : Bool) → effect_with (if missing then Err NotSupported else command_of m) ≡ None
+  on-none : (missing : Bool)
+      → effect_with (if missing then Err NotSupported else command_of m) ≡ None
   unfolding reply_words
   on-none true = refl
   on-none false = read-none

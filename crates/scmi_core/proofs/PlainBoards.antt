@@ -1,4 +1,5 @@
--- A board that keeps nothing, denies nothing, shares nothing out and is not loose gives what it gives if no board says such things.
+-- A board that keeps nothing, denies nothing, shares nothing out and is not loose gives what it
+-- gives if no board says such things.
 use Rattle.std.proofs.Common.{◌≡◌, ◌⊎◌, inl, inr, ℕ, suc, ◌+◌, ◌-◌, ◌<◌, ◌==◌, ◌&&◌, ◌||◌, ◌≤◌, nat_le, nat_lt, Bool, true, false, not, if◌then◌else◌, List, [], ◌∷◌, length, Some, None, Err, refl, sym, ap, subst, ◌∙◌, arith}
 use Rattle.std.specs.Int.{bit_at}
 use Rattle.std.specs.List.{filter, list_all, list_any}
@@ -39,12 +40,15 @@ pub allows : (board : Board) (a d : ℕ) (s : Scope) → AllowsAll board a d s
 unfolding fold_with_prefix
 allows board a d s = λ none. ap (λ denied. is_allowed denied a d s) none ∙ allowed-all a d s
 
-pub resets : (board : Board) (a d : ℕ) (s : Scope) (agent flags : ℕ) → ResetsToAll board a d s agent flags
+pub resets : (board : Board) (a d : ℕ) (s : Scope) (agent flags : ℕ)
+    → ResetsToAll board a d s agent flags
 resets board a d s agent flags = λ none.
-    ap (λ b. if agent == a && bit_0 flags then Some b else None) (ap (λ denied. is_allowed denied a d s) none ∙ allowed-all a d s)
+    ap (λ b. if agent == a && bit_0 flags then Some b else None)
+    (ap (λ denied. is_allowed denied a d s) none ∙ allowed-all a d s)
 
 -- what is said of no domain and of no clock forbids nothing
-alone : (may : Bool) (bit : ℕ → Bool) (other : Bool) → bit 0 ≡ false → (may && not (bit 0 && other)) ≡ may
+alone : (may : Bool) (bit : ℕ → Bool) (other : Bool) → bit 0 ≡ false
+    → (may && not (bit 0 && other)) ≡ may
 alone may bit other none = ap (λ b. may && not (b && other)) none ∙ kept may where
   kept : (b : Bool) → (b && true) ≡ b
   kept true = refl
@@ -53,14 +57,16 @@ alone may bit other none = ap (λ b. may && not (b && other)) none ∙ kept may 
 no_bit : (d : ℕ) → (bit_at 0 d == 1) ≡ false
 no_bit d = ap (λ b. b == 1) (bit_at-zero d)
 
-pub sets : (board : Board) (v : PowerView) (flags d state : ℕ) → SetsByPermission board v flags d state
+pub sets : (board : Board) (v : PowerView) (flags d state : ℕ)
+    → SetsByPermission board v flags d state
 unfolding power_reply may_set
 sets board v flags d state = λ none.
     ap (λ may. set_reply board v.channel may (v.busy d) v.room flags d state)
     (ap (λ kept. v.may d && not (holds kept (resource.Domain d) && (state == state_off))) none
     ∙ alone (v.may d) (λ mask. bit_at mask d == 1) (state == state_off) (no_bit d))
 
-pub configures : (board : Board) (v : ClockView) (c attributes : ℕ) → ConfiguresByPermission board v c attributes
+pub configures : (board : Board) (v : ClockView) (c attributes : ℕ)
+    → ConfiguresByPermission board v c attributes
 unfolding clock_reply
 configures board v c attributes = λ none.
     ap (λ may. reply_unless (config_checks board may c attributes) (0 ∷ []))
@@ -91,7 +97,8 @@ shares waiting a sets = by (leb_tells (suc (length sets)) 8) where
   own : length (sets_by a sets) + length (filter (λ p. not (p.agent == a)) sets) ≡ length sets
   own = length-filter_both (λ p. p.agent == a) (λ p. not (p.agent == a)) (λ p. refl) sets
 
-  by : ((nat_lt (length sets) 8 ≡ true) × (suc (length sets) ≤ 8)) ⊎ ((nat_lt (length sets) 8 ≡ false) × (8 < suc (length sets))) → SharesAll waiting a sets
+  by : ((nat_lt (length sets) 8 ≡ true) × (suc (length sets) ≤ 8))
+      ⊎ ((nat_lt (length sets) 8 ≡ false) × (8 < suc (length sets))) → SharesAll waiting a sets
   by (inl few) =
       let less = few.1 in
       let all = own in
@@ -102,7 +109,8 @@ shares waiting a sets = by (leb_tells (suc (length sets)) 8) where
 
 same-either_way : (a b : ℕ) → (a == b) ≡ (b == a)
 same-either_way a b =
-    same_from_decides (a == b) (b == a) (Decides-eqb a b) (Decides-like (b == a) sym sym (Decides-eqb b a))
+    same_from_decides (a == b) (b == a) (Decides-eqb a b)
+    (Decides-like (b == a) sym sym (Decides-eqb b a))
 
 -- what is listed is not lacking
 none_lacks : (a b c : Bool) → (a && (b || c) && not (b || (c || false))) ≡ false
@@ -111,19 +119,23 @@ none_lacks true true c = refl
 none_lacks true false true = refl
 none_lacks true false false = refl
 
-own_serves : (id : ℕ) → list_any (λ one. one == id) own_protocols ≡ (id == 0x11 || (id == 0x14 || false))
+own_serves : (id : ℕ)
+    → list_any (λ one. one == id) own_protocols ≡ (id == 0x11 || (id == 0x14 || false))
 own_serves id = rw (same-either_way 0x11 id, same-either_way 0x14 id) refl
 
 pub reads : (board : Board) (m : Message) → ReadsAll board m
-reads board m = λ own. ap (λ (missing : Bool). if missing then Err NotSupported else command_of m) (lacks own) where
-  wanted : Bool → Bool
-  wanted listed = m.header.kind == 0 && (m.header.protocol == 0x11 || m.header.protocol == 0x14) && not listed
+reads board m = λ own. ap (λ (missing : Bool). if missing then Err NotSupported else command_of m)
+    (lacks own) where
+      wanted : Bool → Bool
+      wanted listed =
+          m.header.kind == 0 && (m.header.protocol == 0x11 || m.header.protocol == 0x14)
+          && not listed
 
-  lacks : board.protocols ≡ own_protocols → lacks_protocol board m.header ≡ false
-  lacks own =
-      ap (λ (ids : List ℕ). wanted (list_any (λ (one : ℕ). one == m.header.protocol) ids)) own
-      ∙ ap wanted (own_serves m.header.protocol)
-      ∙ none_lacks (m.header.kind == 0) (m.header.protocol == 0x11) (m.header.protocol == 0x14)
+      lacks : board.protocols ≡ own_protocols → lacks_protocol board m.header ≡ false
+      lacks own =
+          ap (λ (ids : List ℕ). wanted (list_any (λ (one : ℕ). one == m.header.protocol) ids)) own
+          ∙ ap wanted (own_serves m.header.protocol)
+          ∙ none_lacks (m.header.kind == 0) (m.header.protocol == 0x11) (m.header.protocol == 0x14)
 
 pub lists : (board : Board) (caller skip : ℕ) → ListsOwn board caller skip
 unfolding base_reply
@@ -132,13 +144,16 @@ lists board caller skip = λ own. ap (λ (ids : List ℕ). protocols_reply ids s
 -- a name that a board may have is one if the board is not loose
 pub names : (board : Board) → Names board
 names board = λ strict valid.
-    let one : (name : List ℕ) → IsNameIf board.loose name → IsName name = λ name is. subst (λ (loose : Bool). IsNameIf loose name) strict is in
+    let one : (name : List ℕ) → IsNameIf board.loose name
+    → IsName name = λ name is. subst (λ (loose : Bool). IsNameIf loose name) strict is in
     record {
       vendor = one board.vendor valid.vendor;
       sub_vendor = one board.sub_vendor valid.sub_vendor;
       agents = λ k d small. one _ (valid.agent_names k d small);
-      domains = All-from_get_or (λ (domain : Domain). IsName domain.name) board.domains _ (λ d small. one _ (valid.domain_names d small));
-      clocks = All-from_get_or (λ (clock : Clock). IsName clock.name) board.clocks _ (λ c small. one _ (valid.clock_names c small));
+      domains = All-from_get_or (λ (domain : Domain). IsName domain.name) board.domains _
+          (λ d small. one _ (valid.domain_names d small));
+      clocks = All-from_get_or (λ (clock : Clock). IsName clock.name) board.clocks _
+          (λ c small. one _ (valid.clock_names c small));
     }
 
 pub starts : (board : Board) (c : ℕ) → Starts board c
@@ -150,7 +165,9 @@ refuses board = λ strict. (
       (λ (loose : Bool).
       let is : List ℕ → Bool = λ name. if loose then is_loose_name name else is_name name in
       is board.vendor && is board.sub_vendor && list_all is board.agents
-      && list_all (λ domain. is domain.name) board.domains && list_all (λ clock. is clock.name) board.clocks)
+      && list_all (λ domain. is domain.name) board.domains
+      && list_all (λ clock. is clock.name) board.clocks)
       strict,
-  ap (λ (loose : Bool). list_all (λ (clock : Clock). is_valid clock.rates && (loose || supports clock.rates clock.rate)) board.clocks) strict,
+  ap (λ (loose : Bool). list_all (λ (clock : Clock). is_valid clock.rates
+      && (loose || supports clock.rates clock.rate)) board.clocks) strict,
 )

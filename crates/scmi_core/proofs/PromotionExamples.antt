@@ -23,7 +23,8 @@ promotion =
 
 promotion-replies : replies board_b promotion
     ≡ (0x00004404 ∷ 0 ∷ []) ∷ (0x00004404 ∷ 0 ∷ []) ∷ (0x00045005 ∷ 0 ∷ []) ∷ []
-    ∷ [] ∷ (0x00045006 ∷ 0 ∷ 200 ∷ 0 ∷ []) ∷ [] ∷ (0x00084405 ∷ 0 ∷ 0 ∷ []) ∷ [] ∷ (0x000c4405 ∷ 0 ∷ 0 ∷ []) ∷ []
+    ∷ [] ∷ (0x00045006 ∷ 0 ∷ 200 ∷ 0 ∷ []) ∷ [] ∷ (0x00084405 ∷ 0 ∷ 0 ∷ []) ∷ []
+    ∷ (0x000c4405 ∷ 0 ∷ 0 ∷ []) ∷ []
 unfolding promotion deeds reply_words base_reply may_set power_reply clock_reply fold_with_prefix
 promotion-replies = refl
 

@@ -12,7 +12,8 @@ use Rattle.scmi_core.specs.Situation.{Situation}
 use Rattle.scmi_core.proofs.CommandLaws.{command_laws}
 
 -- the channels of each agent of a valid board are valid
-valid_at : (xs : List AgentChannel) (k : ℕ) → All IsChannel xs → IsChannel (get_or xs k whole_channel)
+valid_at : (xs : List AgentChannel) (k : ℕ) → All IsChannel xs
+    → IsChannel (get_or xs k whole_channel)
 valid_at [] k all = (omega arith, omega arith, omega arith, omega arith)
 valid_at (x ∷ xs) zero all = All-head IsChannel x xs all
 valid_at (x ∷ xs) (suc k) all = valid_at xs k (All-tail IsChannel x xs all)
@@ -21,7 +22,11 @@ pub valid_channel : (board : Board) (a : ℕ) → IsValid board → IsChannel (c
 valid_channel board a law = valid_at board.channels (a - 1) law.valid_channels
 
 -- a reply has room in its agent's channel
-pub reply-within : (board : Board) (a : ℕ) (s : Situation) (r : Result codec.Command Status) → IsValid board → length (reply_words board a s r) ≤ (channel_of board a).words
+pub reply-within : (board : Board) (a : ℕ) (s : Situation) (r : Result codec.Command Status)
+    → IsValid board → length (reply_words board a s r) ≤ (channel_of board a).words
 unfolding reply_words
-reply-within board a s (Err e) law = let least = (valid_channel board a law).0 in omega (arith, least)
-reply-within board a s (Ok c) law = (command_laws board a).within board s c (valid_channel board a law)
+reply-within board a s (Err e) law =
+    let least = (valid_channel board a law).0 in
+    omega (arith, least)
+reply-within board a s (Ok c) law =
+    (command_laws board a).within board s c (valid_channel board a law)

@@ -24,8 +24,8 @@ kept-replies : replies board_e kept
 unfolding kept deeds reply_words base_reply may_set power_reply clock_reply fold_with_prefix
 kept-replies = refl
 
--- an agent is denied what its board denies it, for that protocol alone; the trusted agent allows it, and a reset of its
--- permissions denies it again
+-- an agent is denied what its board denies it, for that protocol alone; the trusted agent allows
+-- it, and a reset of its permissions denies it again
 denied : List Event
 denied =
     request 2 0 0x11 0x4 (0 ∷ 0 ∷ 0 ∷ []) ∷ request 2 1 0x14 0x5 (0 ∷ 0 ∷ 200 ∷ 0 ∷ [])
@@ -38,8 +38,8 @@ denied-replies : replies board_e denied
 unfolding denied deeds reply_words base_reply may_set power_reply clock_reply fold_with_prefix
 denied-replies = refl
 
--- an agent with a share of one learns that, and has room for one set: not for another beside it, which is another
--- agent's to make
+-- an agent with a share of one learns that, and has room for one set: not for another beside it,
+-- which is another agent's to make
 shared : List Event
 shared =
     request 2 0 0x14 0x1 [] ∷ request 2 1 0x14 0x5 (1 ∷ 0 ∷ 200 ∷ 0 ∷ [])

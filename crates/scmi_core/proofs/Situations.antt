@@ -40,7 +40,8 @@ use Rattle.scmi_core.proofs.Deeds.{messages_made-push, outbox-push}
 -- two situations say the same of all that is on the board
 pub record SameSituation (board : Board) (s u : Situation) : Type 0 where
   pub value : (x : Thing) → IsThing board x → s.value x ≡ u.value x
-  pub allowed : (device : ℕ) (scope : Scope) → device < length board.devices → s.allowed device scope ≡ u.allowed device scope
+  pub allowed : (device : ℕ) (scope : Scope) → device < length board.devices
+      → s.allowed device scope ≡ u.allowed device scope
   pub subscribed : (d : ℕ) → d < length board.domains → s.subscribed d ≡ u.subscribed d
   pub pending : s.pending ≡ u.pending
   pub outbox : s.outbox ≡ u.outbox
@@ -50,42 +51,54 @@ nothing_if true = refl
 nothing_if false = refl
 
 -- an event that completes and changes nothing makes nothing
-pub nothing-made : (a : ℕ) (s : Situation) (left : List PendingSet) → made_in a s left None None ≡ []
+pub nothing-made : (a : ℕ) (s : Situation) (left : List PendingSet)
+    → made_in a s left None None ≡ []
 nothing-made a s left = nothing_if (nat_lt (length s.outbox + 0 + length (sets_by a left)) 16)
 
 -- and so a posting
-pub messages_made-sent : (board : Board) (a : ℕ) (h : List Deed) (b : ℕ) → messages_made board a (h ++ record { event = Sent b; reply = [] } ∷ []) ≡ messages_made board a h
+pub messages_made-sent : (board : Board) (a : ℕ) (h : List Deed) (b : ℕ) → messages_made board a
+    (h ++ record { event = Sent b; reply = [] } ∷ []) ≡ messages_made board a h
 messages_made-sent board a h b =
     let deed : Deed = record { event = Sent b; reply = [] } in
     messages_made-push board a h deed
-    ∙ ap (λ ys. messages_made board a h ++ ys) (nothing-made a (situation_after board a h) (pending_sets board (h ++ deed ∷ [])))
+    ∙ ap (λ ys. messages_made board a h ++ ys)
+    (nothing-made a (situation_after board a h) (pending_sets board (h ++ deed ∷ [])))
     ∙ append-nil (messages_made board a h)
 
-pub outbox-restarted : (board : Board) (a : ℕ) (h : List Deed) (b : ℕ) → sent_count a h ≤ length (messages_made board a h)
-    → outbox_after board a (h ++ record { event = Restarted b; reply = [] } ∷ []) ≡ (if a == b then [] else outbox_after board a h)
+pub outbox-restarted : (board : Board) (a : ℕ) (h : List Deed) (b : ℕ)
+    → sent_count a h ≤ length (messages_made board a h)
+    → outbox_after board a (h ++ record { event = Restarted b; reply = [] } ∷ [])
+    ≡ (if a == b then [] else outbox_after board a h)
 outbox-restarted board a h b enough =
     let deed : Deed = record { event = Restarted b; reply = [] } in
     let left = if a == b then [] else outbox_after board a h in
     outbox-push board a h deed refl enough
-    ∙ ap (λ ys. left ++ ys) (nothing-made a (situation_after board a h) (pending_sets board (h ++ deed ∷ [])))
+    ∙ ap (λ ys. left ++ ys)
+    (nothing-made a (situation_after board a h) (pending_sets board (h ++ deed ∷ [])))
     ∙ append-nil left
 
 -- a promotion leaves each outbox
-pub outbox-promoted : (board : Board) (a : ℕ) (h : List Deed) (place : ℕ) → sent_count a h ≤ length (messages_made board a h)
-    → outbox_after board a (h ++ record { event = Promoted place; reply = [] } ∷ []) ≡ outbox_after board a h
+pub outbox-promoted : (board : Board) (a : ℕ) (h : List Deed) (place : ℕ)
+    → sent_count a h ≤ length (messages_made board a h)
+    → outbox_after board a (h ++ record { event = Promoted place; reply = [] } ∷ [])
+    ≡ outbox_after board a h
 outbox-promoted board a h place enough =
     let deed : Deed = record { event = Promoted place; reply = [] } in
     outbox-push board a h deed refl enough
-    ∙ ap (λ ys. outbox_after board a h ++ ys) (nothing-made a (situation_after board a h) (pending_sets board (h ++ deed ∷ [])))
+    ∙ ap (λ ys. outbox_after board a h ++ ys)
+    (nothing-made a (situation_after board a h) (pending_sets board (h ++ deed ∷ [])))
     ∙ append-nil (outbox_after board a h)
 
 -- and so does a settled rate
-pub outbox-settled : (board : Board) (a : ℕ) (h : List Deed) (clock rate : ℕ) → sent_count a h ≤ length (messages_made board a h)
-    → outbox_after board a (h ++ record { event = Settled clock rate; reply = [] } ∷ []) ≡ outbox_after board a h
+pub outbox-settled : (board : Board) (a : ℕ) (h : List Deed) (clock rate : ℕ)
+    → sent_count a h ≤ length (messages_made board a h)
+    → outbox_after board a (h ++ record { event = Settled clock rate; reply = [] } ∷ [])
+    ≡ outbox_after board a h
 outbox-settled board a h clock rate enough =
     let deed : Deed = record { event = Settled clock rate; reply = [] } in
     outbox-push board a h deed refl enough
-    ∙ ap (λ ys. outbox_after board a h ++ ys) (nothing-made a (situation_after board a h) (pending_sets board (h ++ deed ∷ [])))
+    ∙ ap (λ ys. outbox_after board a h ++ ys)
+    (nothing-made a (situation_after board a h) (pending_sets board (h ++ deed ∷ [])))
     ∙ append-nil (outbox_after board a h)
 
 module _ (board : Board) (a : ℕ) (s u : Situation) (same : SameSituation board s u) where
@@ -114,53 +127,73 @@ module _ (board : Board) (a : ℕ) (s u : Situation) (same : SameSituation board
   }
 
   -- one reply to each command
-  pub reply-same : (r : Result codec.Command Status) → reply_words board a s r ≡ reply_words board a u r
+  pub reply-same : (r : Result codec.Command Status)
+      → reply_words board a s r ≡ reply_words board a u r
   unfolding reply_words
   reply-same (Err e) = refl
   reply-same (Ok c) = reply_by-same board a (views board a s) (views board a u) views-same c
 
   -- also if it may be longer than the channel
   pub given-same : (m : Message) → words_given board a s m ≡ words_given board a u m
-  given-same m = ap (λ words. if fits_channel board a m then words else []) (reply-same (command_on board m))
+  given-same m =
+      ap (λ words. if fits_channel board a m then words else []) (reply-same (command_on board m))
 
   -- one answer to each frame
   pub answer-same : (frame : Frame) → answer_in board a frame s ≡ answer_in board a frame u
-  answer-same (Good m) = ap (λ words. if fits_channel board a m then Reply (record { header = m.header; payload = record { items = words } }) else ChannelError) (reply-same (command_on board m))
+  answer-same (Good m) = ap (λ words. if fits_channel board a m then Reply
+      (record { header = m.header; payload = record { items = words } }) else ChannelError)
+      (reply-same (command_on board m))
   answer-same (Malformed len header) = refl
 
-  notice-same : (change : Change) → IsThing board change.thing → notice_in s change ≡ notice_in u change
+  notice-same : (change : Change) → IsThing board change.thing
+      → notice_in s change ≡ notice_in u change
   notice-same change known = by change.thing known where
-    by : (x : Thing) → IsThing board x → notice_in s (record { thing = x; value = change.value; causer = change.causer }) ≡ notice_in u (record { thing = x; value = change.value; causer = change.causer })
+    by : (x : Thing) → IsThing board x
+        → notice_in s (record { thing = x; value = change.value; causer = change.causer })
+        ≡ notice_in u (record { thing = x; value = change.value; causer = change.causer })
     by (State d) within =
-        ap (λ v. if not (change.value == v) && s.subscribed d then state_changed change.causer d change.value ∷ [] else []) (same.value (State d) within)
-        ∙ ap (λ b. if not (change.value == u.value (State d)) && b then state_changed change.causer d change.value ∷ [] else []) (same.subscribed d within)
+        ap (λ v. if not (change.value == v) && s.subscribed d then state_changed change.causer d
+        change.value ∷ [] else []) (same.value (State d) within)
+        ∙ ap (λ b. if not (change.value == u.value (State d)) && b
+        then state_changed change.causer d change.value ∷ [] else []) (same.subscribed d within)
     by (Rate k) within = refl
     by (Enabled k) within = refl
 
-  notices-same : (change : Option Change) → IfSome change (λ ch. IsThing board ch.thing) → option_map_or (notice_in s) change [] ≡ option_map_or (notice_in u) change []
+  notices-same : (change : Option Change) → IfSome change (λ ch. IsThing board ch.thing)
+      → option_map_or (notice_in s) change [] ≡ option_map_or (notice_in u) change []
   notices-same None known = refl
   notices-same (Some change) known = notice-same change known
 
   -- the same messages of each event
-  pub messages_made-same : (left : List PendingSet) (done : Option PendingSet) (change : Option Change) → IfSome change (λ ch. IsThing board ch.thing)
+  pub messages_made-same : (left : List PendingSet) (done : Option PendingSet)
+      (change : Option Change) → IfSome change (λ ch. IsThing board ch.thing)
       → made_in a s left done change ≡ made_in a u left done change
   messages_made-same left done change known =
       let responses = option_map_or (response_for a) done [] in
-      ap (λ b. responses ++ (if nat_lt (length b + length responses + length (sets_by a left)) 16 then option_map_or (notice_in s) change [] else [])) same.outbox
-      ∙ ap (λ n. responses ++ (if nat_lt (length u.outbox + length responses + length (sets_by a left)) 16 then n else [])) (notices-same change known)
+      ap (λ b. responses ++ (if nat_lt (length b + length responses + length (sets_by a left)) 16
+      then option_map_or (notice_in s) change [] else [])) same.outbox
+      ∙ ap (λ n. responses ++ (if nat_lt (length u.outbox + length responses + length
+      (sets_by a left)) 16 then n else [])) (notices-same change known)
 
--- what the protocols of power domains and clocks reply by tables and a load, which only a set reads, is the reply in the situation of the tables
-pub power-reply : (board : Board) (t : Tables) (a : ℕ) (load : Load) (c : PowerCommand) → length board.domains ≤ 32
-    → IfSome (power_table.set_domain c) (λ set. (d : ℕ) → d < 32 → (bit_at load.busy d == 1) ≡ has_set_of (resource.Domain d) t.pending)
+-- what the protocols of power domains and clocks reply by tables and a load, which only a set
+-- reads, is the reply in the situation of the tables
+pub power-reply : (board : Board) (t : Tables) (a : ℕ) (load : Load) (c : PowerCommand)
+    → length board.domains ≤ 32
+    → IfSome (power_table.set_domain c) (λ set. (d : ℕ) → d < 32
+    → (bit_at load.busy d == 1) ≡ has_set_of (resource.Domain d) t.pending)
     → IfSome (power_table.set_domain c) (λ set. load.room ≡ has_room board a (situation_in a t))
-    → power_reply board (power_table.view_of board t.base t.power load a) c ≡ reply_words board a (situation_in a t) (Ok (Power c))
+    → power_reply board (power_table.view_of board t.base t.power load a) c
+    ≡ reply_words board a (situation_in a t) (Ok (Power c))
 unfolding reply_words
 power-reply board t a load c few busy room =
-    power_same.power_reply-loaded board (power_table.view_of board t.base t.power load a) (power_view board a (situation_in a t)) c refl refl refl
+    power_same.power_reply-loaded board (power_table.view_of board t.base t.power load a)
+    (power_view board a (situation_in a t)) c refl refl refl
     (below (power_table.set_domain c) busy) room
   where
-    below : (o : Option ℕ) → IfSome o (λ set. (d : ℕ) → d < 32 → (bit_at load.busy d == 1) ≡ has_set_of (resource.Domain d) t.pending)
-        → IfSome o (λ set. (d : ℕ) → d < length board.domains → (bit_at load.busy d == 1) ≡ has_set_of (resource.Domain d) t.pending)
+    below : (o : Option ℕ) → IfSome o (λ set. (d : ℕ) → d < 32
+        → (bit_at load.busy d == 1) ≡ has_set_of (resource.Domain d) t.pending)
+        → IfSome o (λ set. (d : ℕ) → d < length board.domains
+        → (bit_at load.busy d == 1) ≡ has_set_of (resource.Domain d) t.pending)
     below None all = all
     below (Some d) all = λ e small. all e (omega arith)
 
@@ -168,16 +201,23 @@ bit_said : (b : Bool) → b ≡ (bit_value b == 1)
 bit_said true = refl
 bit_said false = refl
 
-pub clock-reply : (board : Board) (t : Tables) (a : ℕ) (load : Load) (c : ClockCommand) → length board.clocks ≤ 32
-    → IfSome (clock_table.set_clock c) (λ set. (d : ℕ) → d < 32 → (bit_at load.busy d == 1) ≡ has_set_of (resource.Clock d) t.pending)
+pub clock-reply : (board : Board) (t : Tables) (a : ℕ) (load : Load) (c : ClockCommand)
+    → length board.clocks ≤ 32
+    → IfSome (clock_table.set_clock c) (λ set. (d : ℕ) → d < 32
+    → (bit_at load.busy d == 1) ≡ has_set_of (resource.Clock d) t.pending)
     → IfSome (clock_table.set_clock c) (λ set. load.room ≡ has_room board a (situation_in a t))
-    → clock_reply board (clock_table.view_of board t.base t.clocks load a) c ≡ reply_words board a (situation_in a t) (Ok (Clock c))
+    → clock_reply board (clock_table.view_of board t.base t.clocks load a) c
+    ≡ reply_words board a (situation_in a t) (Ok (Clock c))
 unfolding reply_words
 clock-reply board t a load c few busy room =
-    clock_same.clock_reply-loaded board (clock_table.view_of board t.base t.clocks load a) (clock_view board a (situation_in a t)) c refl (λ e. bit_said (clock_table.enabled_at t.clocks e)) refl refl
+    clock_same.clock_reply-loaded board (clock_table.view_of board t.base t.clocks load a)
+    (clock_view board a (situation_in a t)) c refl
+    (λ e. bit_said (clock_table.enabled_at t.clocks e)) refl refl
     (below (clock_table.set_clock c) busy) room
   where
-    below : (o : Option ℕ) → IfSome o (λ set. (d : ℕ) → d < 32 → (bit_at load.busy d == 1) ≡ has_set_of (resource.Clock d) t.pending)
-        → IfSome o (λ set. (d : ℕ) → d < length board.clocks → (bit_at load.busy d == 1) ≡ has_set_of (resource.Clock d) t.pending)
+    below : (o : Option ℕ) → IfSome o (λ set. (d : ℕ) → d < 32
+        → (bit_at load.busy d == 1) ≡ has_set_of (resource.Clock d) t.pending)
+        → IfSome o (λ set. (d : ℕ) → d < length board.clocks
+        → (bit_at load.busy d == 1) ≡ has_set_of (resource.Clock d) t.pending)
     below None all = all
     below (Some d) all = λ e small. all e (omega arith)

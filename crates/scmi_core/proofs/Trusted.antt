@@ -22,23 +22,37 @@ use Rattle.scmi_core.proofs.CommandLaws.{trusted}
 use Rattle.scmi_core.proofs.Deeds.{added_success, successes-push}
 use Rattle.scmi_core.proofs.Legal.{Grown, deeds-push, empty, grow, grown}
 
-success-trusted : (board : Board) (a : ℕ) (header : HeaderFields) (s : Situation) (r : Result codec.Command Status)
-    → All (IsTrusted board) (option_to_list (if begins_with_success (reply_words board a s r) then success_with a header r else None))
+success-trusted : (board : Board) (a : ℕ) (header : HeaderFields) (s : Situation)
+    (r : Result codec.Command Status)
+    → All (IsTrusted board) (option_to_list
+    (if begins_with_success (reply_words board a s r) then success_with a header r else None))
 unfolding reply_words
-success-trusted board a header s (Err e) = by (begins_with_success (reply_words board a s (Err e))) where
-  by : (b : Bool) → All (IsTrusted board) (option_to_list (if b then success_with a header (Err e) else None))
-  by true = All-nil (IsTrusted board)
-  by false = All-nil (IsTrusted board)
-success-trusted board a header s (Ok c) = by (begins_with_success (reply_words board a s (Ok c))) refl where
-  by : (b : Bool) → begins_with_success (reply_words board a s (Ok c)) ≡ b → All (IsTrusted board) (option_to_list (if b then success_with a header (Ok c) else None))
-  by true ok = All-cons (IsTrusted board) (record { caller = a; header = header; command = c }) [] (trusted board a s header c ok) (All-nil (IsTrusted board))
-  by false ok = All-nil (IsTrusted board)
+success-trusted board a header s (Err e) =
+    by (begins_with_success (reply_words board a s (Err e))) where
+      by : (b : Bool)
+          → All (IsTrusted board)
+          (option_to_list (if b then success_with a header (Err e) else None))
+      by true = All-nil (IsTrusted board)
+      by false = All-nil (IsTrusted board)
+success-trusted board a header s (Ok c) =
+    by (begins_with_success (reply_words board a s (Ok c))) refl where
+      by : (b : Bool) → begins_with_success (reply_words board a s (Ok c)) ≡ b
+          → All (IsTrusted board)
+          (option_to_list (if b then success_with a header (Ok c) else None))
+      by true ok =
+          All-cons (IsTrusted board) (record { caller = a; header = header; command = c }) []
+          (trusted board a s header c ok) (All-nil (IsTrusted board))
+      by false ok = All-nil (IsTrusted board)
 
-deed-trusted : (board : Board) (h : List Event) (e : Event) → All (IsTrusted board) (option_to_list (added_success board (deed_after board (deeds board h) e)))
+deed-trusted : (board : Board) (h : List Event) (e : Event) → All (IsTrusted board)
+    (option_to_list (added_success board (deed_after board (deeds board h) e)))
 deed-trusted board h (Command a (Good m)) = by (fits_channel board a m) where
   by : (short : Bool)
-      → All (IsTrusted board) (option_to_list (success_of a m.header (command_on board m) (if short then reply_words board a (situation_after board a (deeds board h)) (command_on board m) else [])))
-  by true = success-trusted board a m.header (situation_after board a (deeds board h)) (command_on board m)
+      → All (IsTrusted board)
+      (option_to_list (success_of a m.header (command_on board m) (if short then reply_words
+      board a (situation_after board a (deeds board h)) (command_on board m) else [])))
+  by true = success-trusted board a m.header (situation_after board a (deeds board h))
+      (command_on board m)
   by false = All-nil (IsTrusted board)
 deed-trusted board h (Command a (Malformed len header)) = All-nil (IsTrusted board)
 deed-trusted board h (CommandFailed a (Good m) fault) = All-nil (IsTrusted board)
@@ -56,8 +70,10 @@ unfolding deeds fold_with_prefix
 trusted_of board empty = All-nil (IsTrusted board)
 trusted_of board (grow {xs} g e) =
     let deed = deed_after board (deeds board xs) e in
-    subst (All (IsTrusted board)) (sym (ap (successes board) (deeds-push board xs e) ∙ successes-push board (deeds board xs) deed))
-    (All-append (IsTrusted board) (successes board (deeds board xs)) (option_to_list (added_success board deed)) (trusted_of board g) (deed-trusted board xs e))
+    subst (All (IsTrusted board)) (sym
+    (ap (successes board) (deeds-push board xs e) ∙ successes-push board (deeds board xs) deed))
+    (All-append (IsTrusted board) (successes board (deeds board xs))
+    (option_to_list (added_success board deed)) (trusted_of board g) (deed-trusted board xs e))
 
 pub permissions : (board : Board) (h : List Event) → HasTrustedPermissions board h
 permissions board h = trusted_of board (grown h)

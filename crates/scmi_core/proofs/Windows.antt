@@ -13,23 +13,29 @@ mod_wraps_once N j below = elim (cases_lt j N) [
   | inr high ↦ inr (high, mod-eq-sub-mod high ∙ mod-eq_of_lt (omega arith))
 ]
 
-module _ {X : Type 0} (N k n : ℕ) (xs : List X) (starts : k < N) (fits : n ≤ N) (all : length xs ≡ N) where
+module _ {X : Type 0} (N k n : ℕ) (xs : List X) (starts : k < N) (fits : n ≤ N)
+    (all : length xs ≡ N) where
   pub length-window : length (window k n xs) ≡ n
-  length-window = length-take-le n _ (simp (length-append, length-drop) (omega (arith, length-take-le k xs (omega arith))))
+  length-window = length-take-le n _
+      (simp (length-append, length-drop) (omega (arith, length-take-le k xs (omega arith))))
 
   -- item i of the window is place (k + i) % N, which is before the end of the ring or past it
   get_or-window : (i : ℕ) (d : X) → i < n → get_or (window k n xs) i d ≡ get_or xs ((k + i) % N) d
   get_or-window i d within =
       let tail = length-drop k xs in
       get_or-take n _ i d within ∙ elim (mod_wraps_once N (k + i) (omega arith)) [
-        | inl before ↦ get_or_append_left _ _ d i (omega arith) ∙ get_or-drop k xs i d ∙ ap (λ j. get_or xs j d) (omega arith)
-        | inr past ↦ get_or-append_right _ _ (N - k) i d (omega arith) (omega arith) ∙ get_or-take k xs _ d (omega arith) ∙ ap (λ j. get_or xs j d) (omega arith)
+        | inl before ↦ get_or_append_left _ _ d i (omega arith) ∙ get_or-drop k xs i d
+            ∙ ap (λ j. get_or xs j d) (omega arith)
+        | inr past ↦ get_or-append_right _ _ (N - k) i d (omega arith) (omega arith)
+            ∙ get_or-take k xs _ d (omega arith) ∙ ap (λ j. get_or xs j d) (omega arith)
       ]
 
 -- these use the lemmas above at other windows
-module _ {X : Type 0} (N k n : ℕ) (xs : List X) (starts : k < N) (fits : n ≤ N) (all : length xs ≡ N) where
+module _ {X : Type 0} (N k n : ℕ) (xs : List X) (starts : k < N) (fits : n ≤ N)
+    (all : length xs ≡ N) where
   -- what is written after the last item is added at the end
-  pub window-push : (x : X) → n < N → window k (n + 1) (set xs ((k + n) % N) x) ≡ window k n xs ++ x ∷ []
+  pub window-push : (x : X) → n < N
+      → window k (n + 1) (set xs ((k + n) % N) x) ≡ window k n xs ++ x ∷ []
   window-push x room =
       let ys = set xs ((k + n) % N) x in
       let all' = length-set xs ((k + n) % N) x ∙ all in

@@ -22,8 +22,10 @@ frames_of a h = filter_map (frame_from a) h
 
 -- the answer to an event after a history, if it is a command of agent a, done or failed
 abbrev pub answer_for : Board → ℕ → List Event → Event → List Answer
-answer_for board a before (Command b frame) = if a == b then answer_to board b frame before ∷ [] else []
-answer_for board a before (CommandFailed b frame fault) = if a == b then failed_answer frame fault ∷ [] else []
+answer_for board a before (Command b frame) = if a == b
+    then answer_to board b frame before ∷ [] else []
+answer_for board a before (CommandFailed b frame fault) = if a == b
+    then failed_answer frame fault ∷ [] else []
 answer_for board a before _ = []
 
 -- the answers to the frames of agent a, in order

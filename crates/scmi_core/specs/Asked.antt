@@ -19,6 +19,7 @@ abbrev pub and_asked : List Asked → Option Asked → List Asked
 and_asked asks None = asks
 and_asked asks (Some ask) = asks ++ ask ∷ []
 
--- hardware is asked for one more change, if there is one, and for nothing else: if it may have been asked for these before, it may have been asked for these and that after
+-- hardware is asked for one more change, if there is one, and for nothing else: if it may have been
+-- asked for these before, it may have been asked for these and that after
 abbrev pub IsAsked : (List Asked → Type 0) → Option Asked → (List Asked → Type 0) → Type 0
 IsAsked before ask after = (asks : List Asked) → before asks → after (and_asked asks ask)

@@ -26,13 +26,16 @@ pub record Ending : Type 0 where
 
 -- the end of a set that an event makes, given the deeds before it
 abbrev pub ending_by : Board → List Deed → Event → Option Ending
-ending_by board before Advance = option_map (λ p. record { set = p; fault = None }) (completed_set board before Advance)
-ending_by board before (AdvanceFailed fault) = option_map (λ p. record { set = p; fault = Some fault }) (failed_set board before (AdvanceFailed fault))
+ending_by board before Advance =
+    option_map (λ p. record { set = p; fault = None }) (completed_set board before Advance)
+ending_by board before (AdvanceFailed fault) = option_map
+    (λ p. record { set = p; fault = Some fault }) (failed_set board before (AdvanceFailed fault))
 ending_by board before _ = None
 
 -- the ends of sets, in order
 abbrev pub endings : Board → List Deed → List Ending
-endings board h = flat_map_with_prefix (λ before deed. option_to_list (ending_by board before deed.event)) h
+endings board h =
+    flat_map_with_prefix (λ before deed. option_to_list (ending_by board before deed.event)) h
 
 -- the delayed response to a set that ended so
 abbrev pub response_at : Ending → Message
@@ -45,21 +48,28 @@ response_at e = response e.fault where
 abbrev pub delayed_responses : List Message → List Message
 delayed_responses messages = filter (λ m. m.header.kind == 2) messages
 
--- the delayed responses for agent a, in order: one for each set of it that ended and wanted one; but a restart of the agent leaves those that were posted
+-- the delayed responses for agent a, in order: one for each set of it that ended and wanted one;
+-- but a restart of the agent leaves those that were posted
 abbrev pub responses_for : Board → ℕ → List Deed → List Message
 responses_for board a h =
     fold_with_prefix
     (λ before so_far deed.
-    (if is_restart_of a deed.event then delayed_responses (take (sent_count a before) (messages_made board a before)) else so_far)
-    ++ map response_at (filter (λ e. e.set.agent == a && e.set.wanted) (option_to_list (ending_by board before deed.event))))
+    (if is_restart_of a deed.event then delayed_responses
+    (take (sent_count a before) (messages_made board a before)) else so_far)
+    ++ map response_at (filter (λ e. e.set.agent == a && e.set.wanted)
+    (option_to_list (ending_by board before deed.event))))
     [] [] h
 
--- at most 8 sets are pending, and an agent's outbox and its pending sets are at most 16 together (own)
+-- at most 8 sets are pending, and an agent's outbox and its pending sets are at most 16 together
+-- (own)
 pub record HasBounds (board : Board) (h : List Deed) : Type 0 where
   pub pending : length (pending_sets board h) ≤ PENDING_SETS
-  pub loads : (a : ℕ) → length (outbox_after board a h) + length (pending_of board a h) ≤ OUTBOX_ROOM
+  pub loads : (a : ℕ)
+      → length (outbox_after board a h) + length (pending_of board a h) ≤ OUTBOX_ROOM
 
--- no delayed response is lost but those that a restart of their agent drops: the accepted sets end in order, and for an agent that never restarted one response is made for each set of it that ended and wanted one
+-- no delayed response is lost but those that a restart of their agent drops: the accepted sets end
+-- in order, and for an agent that never restarted one response is made for each set of it that
+-- ended and wanted one
 pub record HasResponses (board : Board) (h : List Deed) : Type 0 where
   pub each : map (λ e. e.set) (endings board h) ≡ ended_sets board h
   pub delayed : (a : ℕ) → delayed_responses (messages_made board a h) ≡ responses_for board a h

@@ -22,8 +22,8 @@ IsAnswerWithin board a _ = ⊤
 abbrev pub IsOneWay : Board → ℕ → Type 0
 IsOneWay board a = (channel_of board a).one_way ≡ true
 
--- each answer to an agent, and each message that was made for it, has room in its channels; and for an agent that the
--- platform can't send to none was made, so that its outbox is empty
+-- each answer to an agent, and each message that was made for it, has room in its channels; and for
+-- an agent that the platform can't send to none was made, so that its outbox is empty
 pub record KeepsChannels (board : Board) (h : List Event) : Type 0 where
   pub answers : (a : ℕ) → All (IsAnswerWithin board a) (answers_to board a h)
   pub made : (a : ℕ) → All (IsWithin board a) (made_for board a h)

@@ -1,4 +1,5 @@
--- What a command does, whichever protocol it is of: the one file of definitions with an arm for each protocol.
+-- What a command does, whichever protocol it is of: the one file of definitions with an arm for
+-- each protocol.
 use Rattle.std.specs.Prelude.{ℕ, Bool, true, false, List, Option, None, option_map}
 use Rattle.scmi_codec.specs.declared.command.Command.TheVariants.{Base, Power, Clock}
 use Rattle.scmi_codec.specs.declared.command.Command as codec
@@ -49,7 +50,8 @@ pub record Later : Type 0 where
 abbrev pub state_later : ℕ × ℕ → Later
 state_later set = record { setting = setting.State set.0 set.1; wanted = true }
 
--- a clock's set: clock, rounded rate, and whether a delayed response is wanted (DEN0056B, clock management protocol)
+-- a clock's set: clock, rounded rate, and whether a delayed response is wanted (DEN0056B, clock
+-- management protocol)
 abbrev pub rate_later_as : ℕ × ℕ × Bool → Later
 rate_later_as set = record { setting = setting.Rate set.0 set.1; wanted = set.2 }
 

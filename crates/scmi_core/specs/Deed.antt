@@ -11,8 +11,8 @@ use Rattle.scmi_core.specs.ReadCommand.{command_on}
 use Rattle.scmi_core.specs.declared.event.Event.{Event}
 use Rattle.scmi_core.specs.declared.event.Event.TheVariants.{Command, Restarted}
 
--- an event, and the payload words of its reply; none if the event is no well-formed command that fits its channel,
--- done or failed
+-- an event, and the payload words of its reply; none if the event is no well-formed command that
+-- fits its channel, done or failed
 pub record Deed : Type 0 where
   pub event : Event
   pub reply : List ℕ
@@ -25,11 +25,13 @@ latest d (x ∷ xs) = latest x xs
 -- what `step` makes of s over the items of a list, each given the items before it
 unfoldable pub fold_with_prefix : {X S : Type 0} → (List X → S → X → S) → List X → S → List X → S
 fold_with_prefix step before s [] = s
-fold_with_prefix step before s (x ∷ xs) = fold_with_prefix step (before ++ x ∷ []) (step before s x) xs
+fold_with_prefix step before s (x ∷ xs) =
+    fold_with_prefix step (before ++ x ∷ []) (step before s x) xs
 
 -- what each item adds to a list, given the items before it
 abbrev pub flat_map_with_prefix : {X A : Type 0} → (List X → X → List A) → List X → List A
-flat_map_with_prefix adds xs = fold_with_prefix (λ before so_far x. so_far ++ adds before x) [] [] xs
+flat_map_with_prefix adds xs =
+    fold_with_prefix (λ before so_far x. so_far ++ adds before x) [] [] xs
 
 -- a command that was answered with status 0
 pub record Success : Type 0 where

@@ -25,11 +25,14 @@ effect_of change = given_to change.thing where
 
 -- the effect that an event has after a history, if it has one
 abbrev pub effect_after : Board → List Event → Event → Option Effect
-effect_after board h event = option_map effect_of (change_by board (deeds board h) (deed_after board (deeds board h) event))
+effect_after board h event =
+    option_map effect_of (change_by board (deeds board h) (deed_after board (deeds board h) event))
 
--- the header of a command that may change hardware: POWER_STATE_SET, CLOCK_RATE_SET or CLOCK_CONFIG_SET
+-- the header of a command that may change hardware: POWER_STATE_SET, CLOCK_RATE_SET or
+-- CLOCK_CONFIG_SET
 abbrev pub is_set_header : Header → Bool
-is_set_header header = header.protocol == 0x11 && header.id == 0x4 || header.protocol == 0x14 && (header.id == 0x5 || header.id == 0x7)
+is_set_header header = header.protocol == 0x11 && header.id == 0x4 || header.protocol == 0x14
+    && (header.id == 0x5 || header.id == 0x7)
 
 -- a frame with such a header
 abbrev pub is_set_frame : Frame → Bool
@@ -46,9 +49,11 @@ commanded_effects board h = map effect_of (commanded_changes board (deeds board 
 
 -- the effect of a message of agent a that is read, by the agent's situation
 abbrev pub effect_read : Board → ℕ → Message → Situation → Option Effect
-effect_read board a m s = option_map effect_of (change_of board (success_of a m.header (command_on board m) (reply_words board a s (command_on board m))) None)
+effect_read board a m s = option_map effect_of (change_of board
+    (success_of a m.header (command_on board m) (reply_words board a s (command_on board m))) None)
 
--- the effect of a frame of agent a, by the agent's situation; one that is longer than its channel has none
+-- the effect of a frame of agent a, by the agent's situation; one that is longer than its channel
+-- has none
 abbrev pub effect_in : Board → ℕ → Frame → Situation → Option Effect
 effect_in board a (Good m) s = if fits_channel board a m then effect_read board a m s else None
 effect_in board a (Malformed len header) s = None

@@ -1,4 +1,5 @@
--- The history of a platform: a list of events, oldest first. Each event is judged at its prefix, the events before it.
+-- The history of a platform: a list of events, oldest first. Each event is judged at its prefix,
+-- the events before it.
 use Rattle.std.specs.Prelude.{◌≡◌, ℕ, Bool, true, List, [], ◌∷◌, ◌++◌, length, take, ◌<◌, Option, Some, None}
 use Rattle.std.specs.List.{fold}
 use Rattle.scmi_codec.specs.declared.message.Message.{Message}
@@ -23,8 +24,10 @@ use Rattle.scmi_core.specs.Value.{Thing, value}
 
 -- an event with the payload of its reply, after these deeds
 abbrev pub deed_after : Board → List Deed → Event → Deed
-deed_after board h (Command a (Good m)) = record { event = Command a (Good m); reply = words_given board a (situation_after board a h) m }
-deed_after board h (CommandFailed a (Good m) fault) = record { event = CommandFailed a (Good m) fault; reply = failed_words fault }
+deed_after board h (Command a (Good m)) =
+    record { event = Command a (Good m); reply = words_given board a (situation_after board a h) m }
+deed_after board h (CommandFailed a (Good m) fault) =
+    record { event = CommandFailed a (Good m) fault; reply = failed_words fault }
 deed_after board h event = record { event = event; reply = [] }
 
 -- each event with its reply at its prefix
@@ -56,7 +59,8 @@ made_for board a h = messages_made board a (deeds board h)
 
 -- the messages that were posted to agent a: the first of those made for it
 unfoldable pub delivered_messages : Board → ℕ → List Event → List Message
-delivered_messages board a h = take (sent_count a (deeds board h)) (messages_made board a (deeds board h))
+delivered_messages board a h =
+    take (sent_count a (deeds board h)) (messages_made board a (deeds board h))
 
 -- the outbox of agent a after a history
 unfoldable pub outbox : Board → ℕ → List Event → List Message
@@ -70,9 +74,11 @@ IsIdle board h = pending_sets board (deeds board h) ≡ []
 abbrev pub HasPendingAt : Board → List Event → ℕ → Type 0
 HasPendingAt board h place = place < length (pending_sets board (deeds board h))
 
--- this is a clock of the board that is free and has a pending set after a history: the hardware may settle the rate of that set
+-- this is a clock of the board that is free and has a pending set after a history: the hardware may
+-- settle the rate of that set
 abbrev pub CanSettle : Board → List Event → ℕ → Type 0
-CanSettle board h clock = (clock < length board.clocks) × (is_free board clock ≡ true) × (is_pending board (resource.Clock clock) (deeds board h) ≡ true)
+CanSettle board h clock = (clock < length board.clocks) × (is_free board clock ≡ true)
+    × (is_pending board (resource.Clock clock) (deeds board h) ≡ true)
 
 -- nothing waits for this agent of the board after a history
 abbrev pub HasNothingFor : Board → ℕ → List Event → Type 0

@@ -11,13 +11,17 @@ use Rattle.scmi_core.specs.History.{CanSettle, deeds, outbox}
 use Rattle.scmi_core.specs.Pending.{pending_sets}
 use Rattle.scmi_core.specs.Value.{IsReportable}
 
--- an event may come after a history: a command of an agent, an advance if a set is pending, a posting if the outbox has a message;
--- a command or an advance may fail if it would change the hardware; an agent may restart; a set that is pending may be promoted, and that of a free clock be settled; and the hardware may report a change of its own
+-- an event may come after a history: a command of an agent, an advance if a set is pending, a
+-- posting if the outbox has a message; a command or an advance may fail if it would change the
+-- hardware; an agent may restart; a set that is pending may be promoted, and that of a free clock
+-- be settled; and the hardware may report a change of its own
 abbrev pub CanFollow : Board → List Event → Event → Type 0
 CanFollow board before (Command a frame) = IsAgent (length board.agents) a
 CanFollow board before Advance = 0 < length (pending_sets board (deeds board before))
-CanFollow board before (Sent a) = (1 ≤ a) × (a ≤ length board.agents) × (0 < length (outbox board a before))
-CanFollow board before (CommandFailed a frame fault) = IsAgent (length board.agents) a × (effect_after board before (Command a frame) ≢ None)
+CanFollow board before (Sent a) = (1 ≤ a) × (a ≤ length board.agents)
+    × (0 < length (outbox board a before))
+CanFollow board before (CommandFailed a frame fault) = IsAgent (length board.agents) a
+    × (effect_after board before (Command a frame) ≢ None)
 CanFollow board before (AdvanceFailed fault) = 0 < length (pending_sets board (deeds board before))
 CanFollow board before (Restarted a) = IsAgent (length board.agents) a
 CanFollow board before (Promoted place) = place < length (pending_sets board (deeds board before))
@@ -32,4 +36,5 @@ told (report.Settled clock rate) = Settled clock rate
 
 -- each event may come after those before it
 pub record IsLegal (board : Board) (h : List Event) : Type 0 where
-  pub each : (before after : List Event) (event : Event) → h ≡ before ++ event ∷ after → CanFollow board before event
+  pub each : (before after : List Event) (event : Event) → h ≡ before ++ event ∷ after
+      → CanFollow board before event

@@ -16,7 +16,8 @@ fault_numbered number =
     else if number == 5 then fault.GenericError
     else fault.HardwareError
 
--- the mark of a report, by what it is of, of a settled rate, or from 4 on of a promotion, by its place
+-- the mark of a report, by what it is of, of a settled rate, or from 4 on of a promotion, by its
+-- place
 abbrev pub report_of : ℕ → Mark
 report_of number =
     if number == 0 then StateReported
@@ -25,8 +26,9 @@ report_of number =
     else if number == 3 then RateSettled
     else Promoted (number - 4)
 
--- what a word marks: its lowest three bits say what the event is, and the bits above them whose; of a command that
--- failed these are four bits; from bit 7 on there is the fault of what failed; of a report and of a settled rate the bits above say of what, and of a promotion at which place
+-- what a word marks: its lowest three bits say what the event is, and the bits above them whose; of
+-- a command that failed these are four bits; from bit 7 on there is the fault of what failed; of a
+-- report and of a settled rate the bits above say of what, and of a promotion at which place
 abbrev pub mark_of : ℕ → Mark
 mark_of word =
     if word % 8 == 0 then Advance

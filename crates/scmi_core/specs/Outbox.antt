@@ -25,16 +25,24 @@ use Rattle.scmi_core.specs.declared.outboxes.TheConstants.{OUTBOX_ROOM}
 abbrev pub message_with : HeaderFields → List ℕ → Message
 message_with header words = record { header = header; payload = record { items = words } }
 
--- the payload of a delayed response: status 0, the domain or clock, and the value that was set (own)
+-- the payload of a delayed response: status 0, the domain or clock, and the value that was set
+-- (own)
 abbrev pub delayed_words : Setting → List ℕ
 delayed_words (setting.State d state) = 0 ∷ d ∷ state ∷ []
 delayed_words (setting.Rate c rate) = 0 ∷ c ∷ rate_words rate
 
--- the delayed response to a set: its command's token, protocol and id, type 2 (DEN0056B, message header)
+-- the delayed response to a set: its command's token, protocol and id, type 2 (DEN0056B, message
+-- header)
 abbrev pub response_to : HeaderFields → Setting → Message
 response_to header setting =
     record {
-      header = record { reserved = 0; token = header.token; protocol = header.protocol; kind = 2; id = header.id };
+      header = record {
+        reserved = 0;
+        token = header.token;
+        protocol = header.protocol;
+        kind = 2;
+        id = header.id;
+      };
       payload = record { items = delayed_words setting };
     }
 
@@ -46,11 +54,18 @@ failed_words fault = status_word (fault_status fault) ∷ []
 abbrev pub failed_response_to : HeaderFields → Fault → Message
 failed_response_to header fault =
     record {
-      header = record { reserved = 0; token = header.token; protocol = header.protocol; kind = 2; id = header.id };
+      header = record {
+        reserved = 0;
+        token = header.token;
+        protocol = header.protocol;
+        kind = 2;
+        id = header.id;
+      };
       payload = record { items = failed_words fault };
     }
 
--- POWER_STATE_CHANGED: type 3, id 0, token 0 (own), the causer, the domain and its state (DEN0056B, power domain management protocol)
+-- POWER_STATE_CHANGED: type 3, id 0, token 0 (own), the causer, the domain and its state (DEN0056B,
+-- power domain management protocol)
 abbrev pub state_changed : ℕ → ℕ → ℕ → Message
 state_changed causer d state =
     record {
@@ -64,9 +79,11 @@ response_for a p = if p.agent == a && p.wanted then response_to p.header p.setti
 
 -- the delayed response that a failed set makes for agent a: to its own agent, if it is wanted
 abbrev pub failed_response_for : ℕ → Fault → PendingSet → List Message
-failed_response_for a fault p = if p.agent == a && p.wanted then failed_response_to p.header fault ∷ [] else []
+failed_response_for a fault p = if p.agent == a && p.wanted
+    then failed_response_to p.header fault ∷ [] else []
 
--- the notification that a change makes for an agent: of a state that is another than before, if the agent asked for it; the causer gets it as well (own)
+-- the notification that a change makes for an agent: of a state that is another than before, if the
+-- agent asked for it; the causer gets it as well (own)
 abbrev pub notice_in : Situation → Change → List Message
 notice_in s change = notice change.thing where
   notice : Thing → List Message
@@ -84,8 +101,11 @@ is_sent_by a _ = false
 abbrev pub sent_count : ℕ → List Deed → ℕ
 sent_count a h = count_by (λ deed. is_sent_by a deed.event) h
 
--- what an event makes for agent a, by the sets that it leaves pending, the set that it completes and the change that it makes: the delayed response, and then the notification if outbox and pending sets are below 16 (own)
-abbrev pub made_in : ℕ → Situation → List PendingSet → Option PendingSet → Option Change → List Message
+-- what an event makes for agent a, by the sets that it leaves pending, the set that it completes
+-- and the change that it makes: the delayed response, and then the notification if outbox and
+-- pending sets are below 16 (own)
+abbrev pub made_in : ℕ → Situation → List PendingSet → Option PendingSet → Option Change
+    → List Message
 made_in a s left done change =
     let responses = option_map_or (response_for a) done [] in
     let notices = option_map_or (notice_in s) change [] in
@@ -106,9 +126,11 @@ situation_with board a so_far h =
 -- what a deed makes for agent a, given the deeds before it and what they made
 abbrev pub made_by : Board → ℕ → List Deed → List Message → Deed → List Message
 made_by board a before so_far deed =
-    option_map_or (failed_response_for a (fault_in deed.event)) (failed_set board before deed.event) []
+    option_map_or (failed_response_for a (fault_in deed.event))
+    (failed_set board before deed.event) []
     ++ made_in a (situation_with board a so_far before)
-    (pending_sets board (before ++ deed ∷ [])) (completed_set board before deed.event) (change_by board before deed)
+    (pending_sets board (before ++ deed ∷ [])) (completed_set board before deed.event)
+    (change_by board before deed)
 
 -- whether an event is a restart of agent a
 abbrev pub is_restart_of : ℕ → Event → Bool
@@ -118,7 +140,8 @@ is_restart_of a event = option_map_or (λ b. a == b) (restarted_by event) false
 abbrev pub restart_count : ℕ → List Deed → ℕ
 restart_count a h = count_by (λ deed. is_restart_of a deed.event) h
 
--- what is left of the messages made for an agent, the first of which were posted: a restart of the agent drops the others (own)
+-- what is left of the messages made for an agent, the first of which were posted: a restart of the
+-- agent drops the others (own)
 abbrev pub messages_left : ℕ → Bool → List Message → List Message
 messages_left posted restarted so_far = if restarted then take posted so_far else so_far
 
@@ -126,7 +149,8 @@ messages_left posted restarted so_far = if restarted then take posted so_far els
 abbrev pub messages_made : Board → ℕ → List Deed → List Message
 messages_made board a h =
     fold_with_prefix
-    (λ before so_far deed. messages_left (sent_count a before) (is_restart_of a deed.event) so_far ++ made_by board a before so_far deed)
+    (λ before so_far deed. messages_left (sent_count a before) (is_restart_of a deed.event) so_far
+    ++ made_by board a before so_far deed)
     [] [] h
 
 -- the messages made for agent a and not yet posted

@@ -19,7 +19,8 @@ use Rattle.scmi_core.specs.declared.pending_set.Setting.TheVariants as setting
 
 -- a set of agent a that is accepted for later
 abbrev pub made_pending : ℕ → HeaderFields → Later → PendingSet
-made_pending a header later = record { agent = a; setting = later.setting; header = header; wanted = later.wanted }
+made_pending a header later =
+    record { agent = a; setting = later.setting; header = header; wanted = later.wanted }
 
 -- a domain's set
 abbrev pub state_set : ℕ → HeaderFields → ℕ × ℕ → PendingSet
@@ -47,7 +48,8 @@ advances h = count_by (λ deed. is_advance deed.event) h
 abbrev pub unwanted : ℕ → PendingSet → PendingSet
 unwanted a p = record p { wanted = p.wanted && not (p.agent == a) }
 
--- a list with the item at a place before the others, which stay in order; without one there it is as it was
+-- a list with the item at a place before the others, which stay in order; without one there it is
+-- as it was
 abbrev pub promoted : {X : Type 0} → ℕ → List X → List X
 promoted place xs = take 1 (drop place xs) ++ (take place xs ++ drop (1 + place) xs)
 
@@ -66,7 +68,8 @@ pub data PendingChange : Type 0 where
   First : (place : ℕ) → PendingChange
   Settled : (clock rate : ℕ) → PendingChange
 
--- an agent that restarts wants no delayed response to its sets, a promotion puts one of them before the others, and hardware may settle the rate of one (own)
+-- an agent that restarts wants no delayed response to its sets, a promotion puts one of them before
+-- the others, and hardware may settle the rate of one (own)
 abbrev pub pending_change : Event → Option PendingChange
 pending_change (Restarted a) = Some (Unwanted a)
 pending_change (Promoted place) = Some (First place)
@@ -85,14 +88,18 @@ abbrev pub sets_left : ℕ → Option PendingChange → List PendingSet → List
 sets_left ended None sets = sets
 sets_left ended (Some change) sets = take ended sets ++ pending_left (Some change) (drop ended sets)
 
--- the sets that were accepted for later: those that ended, in the order in which they did, and then those that are pending, in the order in which they will end
+-- the sets that were accepted for later: those that ended, in the order in which they did, and then
+-- those that are pending, in the order in which they will end
 abbrev pub accepted_sets : Board → List Deed → List PendingSet
 accepted_sets board h =
     fold_with_prefix
-    (λ before so_far deed. sets_left (advances before) (pending_change deed.event) so_far ++ option_to_list (option_and_then (acceptance board) (success_at board deed.event deed.reply)))
+    (λ before so_far deed. sets_left (advances before) (pending_change deed.event) so_far
+    ++ option_to_list
+    (option_and_then (acceptance board) (success_at board deed.event deed.reply)))
     [] [] h
 
--- sets end in order of acceptance, one per advance, but for those that are promoted; the others are pending (own)
+-- sets end in order of acceptance, one per advance, but for those that are promoted; the others are
+-- pending (own)
 abbrev pub pending_sets : Board → List Deed → List PendingSet
 pending_sets board h = drop (advances h) (accepted_sets board h)
 
@@ -122,8 +129,9 @@ is_pending board r h = has_set_of r (pending_sets board h)
 abbrev pub load_beside : ℕ → ℕ → List PendingSet → ℕ
 load_beside waiting a sets = waiting + length (sets_by a sets)
 
--- another set of agent a has room if fewer than 8 are pending in all, fewer of its own than its share, and its sets and its outbox are fewer than 16
--- together (own)
+-- another set of agent a has room if fewer than 8 are pending in all, fewer of its own than its
+-- share, and its sets and its outbox are fewer than 16 together (own)
 abbrev pub has_room_beside : (share waiting a : ℕ) → List PendingSet → Bool
 has_room_beside share waiting a sets =
-    nat_lt (length sets) PENDING_SETS && (nat_lt (length (sets_by a sets)) share && nat_lt (load_beside waiting a sets) OUTBOX_ROOM)
+    nat_lt (length sets) PENDING_SETS && (nat_lt (length (sets_by a sets)) share
+    && nat_lt (load_beside waiting a sets) OUTBOX_ROOM)

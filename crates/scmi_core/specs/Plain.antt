@@ -1,4 +1,5 @@
--- Which events a history has without the hardware's refusals and reports, without restarts, and without promotions and settlings; and what each of these alone is needed for.
+-- Which events a history has without the hardware's refusals and reports, without restarts, and
+-- without promotions and settlings; and what each of these alone is needed for.
 use Rattle.std.specs.Prelude.{◌≡◌, ◌⊎◌, List, [], ◌++◌, Option, None, Some}
 use Rattle.std.specs.List.{All}
 use Rattle.std.specs.Option.{option_and_then, option_to_list}
@@ -13,7 +14,8 @@ use Rattle.scmi_core.specs.Value.{Change, changes}
 use Rattle.scmi_core.specs.declared.event.Event.{Event}
 use Rattle.scmi_core.specs.declared.event.Event.TheVariants.{Command, Advance, Sent, CommandFailed, AdvanceFailed, Restarted, Promoted, Settled, Reported}
 
--- a command, an advance or a posting: nothing failed, no agent restarted, no set was promoted or settled, and the hardware changed nothing by itself
+-- a command, an advance or a posting: nothing failed, no agent restarted, no set was promoted or
+-- settled, and the hardware changed nothing by itself
 abbrev pub IsPlain : Event → Type 0
 IsPlain (Command a frame) = Unit {0}
 IsPlain Advance = Unit {0}
@@ -54,7 +56,9 @@ change_in_place change = change
 abbrev pub sets_in_order : Board → List Deed → List PendingSet
 sets_in_order board h =
     fold_with_prefix
-    (λ before so_far deed. sets_left (advances before) (change_in_place (pending_change deed.event)) so_far ++ option_to_list (option_and_then (acceptance board) (success_at board deed.event deed.reply)))
+    (λ before so_far deed. sets_left (advances before)
+    (change_in_place (pending_change deed.event)) so_far ++ option_to_list
+    (option_and_then (acceptance board) (success_at board deed.event deed.reply)))
     [] [] h
 
 -- sets end in order of acceptance

@@ -1,5 +1,6 @@
--- What the definitions give of a board that keeps nothing, denies nothing, shares nothing out, has all that it lists,
--- frees no clock, says nothing of its protocols and is not loose: what they give if no board says such things.
+-- What the definitions give of a board that keeps nothing, denies nothing, shares nothing out, has
+-- all that it lists, frees no clock, says nothing of its protocols and is not loose: what they give
+-- if no board says such things.
 use Rattle.std.specs.Prelude.{◌≡◌, ◌<◌, ◌==◌, ◌&&◌, ℕ, nat_le, nat_lt, true, false, if◌then◌else◌, List, [], ◌∷◌, length, Some, None}
 use Rattle.std.specs.List.{All, list_all}
 use Rattle.scmi_codec.specs.Command.{command_of}
@@ -33,32 +34,38 @@ AllowsAll board a d s = board.denied ≡ nothing_denied → has_permission board
 abbrev pub ResetsToAll : Board → (a d : ℕ) → Scope → (agent flags : ℕ) → Type 0
 ResetsToAll board a d s agent flags =
     board.denied ≡ nothing_denied
-    → permission board a d s (ResetAgent agent flags) ≡ (if agent == a && bit_0 flags then Some true else None)
+    → permission board a d s (ResetAgent agent flags)
+    ≡ (if agent == a && bit_0 flags then Some true else None)
 
 -- a set of a state is denied for its caller's permission alone
 abbrev pub SetsByPermission : Board → PowerView → (flags d state : ℕ) → Type 0
 SetsByPermission board v flags d state =
     board.kept ≡ nothing_held
-    → power_reply board v (power.Set flags d state) ≡ set_reply board v.channel (v.may d) (v.busy d) v.room flags d state
+    → power_reply board v (power.Set flags d state)
+    ≡ set_reply board v.channel (v.may d) (v.busy d) v.room flags d state
 
 -- and so is a clock's configuration
 abbrev pub ConfiguresByPermission : Board → ClockView → (c attributes : ℕ) → Type 0
 ConfiguresByPermission board v c attributes =
     board.kept ≡ nothing_held
-    → clock_reply board v (clock.Config c attributes) ≡ reply_unless (config_checks board (v.may c) c attributes) (0 ∷ [])
+    → clock_reply board v (clock.Config c attributes)
+    ≡ reply_unless (config_checks board (v.may c) c attributes) (0 ∷ [])
 
 -- a domain that is not found is one that the board lacks
 abbrev pub FindsDomains : Board → (d : ℕ) → Type 0
-FindsDomains board d = board.absent ≡ nothing_held → no_domain board d ≡ nat_le (length board.domains) d
+FindsDomains board d = board.absent ≡ nothing_held
+    → no_domain board d ≡ nat_le (length board.domains) d
 
 -- and so is a clock
 abbrev pub FindsClocks : Board → (c : ℕ) → Type 0
-FindsClocks board c = board.absent ≡ nothing_held → no_clock board c ≡ nat_le (length board.clocks) c
+FindsClocks board c = board.absent ≡ nothing_held
+    → no_clock board c ≡ nat_le (length board.clocks) c
 
 -- each rate is rounded to a supported one
 abbrev pub Rounds : Board → (c flags asked : ℕ) → Type 0
 Rounds board c flags asked =
-    board.free ≡ 0 → rate_for board c flags asked ≡ rounded_rate (clock_at board c).rates flags asked
+    board.free ≡ 0
+    → rate_for board c flags asked ≡ rounded_rate (clock_at board c).rates flags asked
 
 -- a message asks what it says, of each protocol
 abbrev pub ReadsAll : Board → Message → Type 0
@@ -94,10 +101,13 @@ Refuses board =
     board.loose ≡ false
     → (has_valid_names board
     ≡ (is_name board.vendor && is_name board.sub_vendor && list_all is_name board.agents
-    && list_all (λ domain. is_name domain.name) board.domains && list_all (λ clock. is_name clock.name) board.clocks))
-    × (has_valid_clocks board ≡ list_all (λ clock. is_valid clock.rates && supports clock.rates clock.rate) board.clocks)
+    && list_all (λ domain. is_name domain.name) board.domains
+    && list_all (λ clock. is_name clock.name) board.clocks))
+    × (has_valid_clocks board
+    ≡ list_all (λ clock. is_valid clock.rates && supports clock.rates clock.rate) board.clocks)
 
 -- an agent that all pending sets may be of has room for what is left of them and of its outbox
 abbrev pub SharesAll : (waiting a : ℕ) → List PendingSet → Type 0
 SharesAll waiting a sets =
-    has_room_beside PENDING_SETS waiting a sets ≡ (nat_lt (length sets) PENDING_SETS && nat_lt (load_beside waiting a sets) OUTBOX_ROOM)
+    has_room_beside PENDING_SETS waiting a sets
+    ≡ (nat_lt (length sets) PENDING_SETS && nat_lt (load_beside waiting a sets) OUTBOX_ROOM)

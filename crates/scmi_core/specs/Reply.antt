@@ -19,7 +19,8 @@ use Rattle.scmi_core.specs.Pending.{has_set_of}
 use Rattle.scmi_core.specs.Situation.{Situation, has_room, views}
 use Rattle.scmi_core.specs.Value.{is_off, thing_of, value_of}
 
--- the payload of the reply to a command of agent a, or to a message that is not a command: its status alone
+-- the payload of the reply to a command of agent a, or to a message that is not a command: its
+-- status alone
 unfoldable pub reply_words : Board → ℕ → Situation → Result codec.Command Status → List ℕ
 reply_words board a s (Err e) = status_word e ∷ []
 reply_words board a s (Ok c) = reply_by board a (views board a s) c
@@ -28,26 +29,31 @@ reply_words board a s (Ok c) = reply_by board a (views board a s) c
 abbrev pub fits_channel : Board → ℕ → Message → Bool
 fits_channel board a m = nat_le (length m.payload.items) (channel_of board a).words
 
--- the payload of the reply that a message of agent a gets; one that is longer than its channel gets none
+-- the payload of the reply that a message of agent a gets; one that is longer than its channel gets
+-- none
 abbrev pub words_given : Board → ℕ → Situation → Message → List ℕ
-words_given board a s m = if fits_channel board a m then reply_words board a s (command_on board m) else []
+words_given board a s m = if fits_channel board a m
+    then reply_words board a s (command_on board m) else []
 
 -- the reply to a message of agent a: the message's header, and the payload
 abbrev pub reply_in : Board → ℕ → Message → Situation → Message
 reply_in board a m s = message_with m.header (reply_words board a s (command_on board m))
 
--- the answer to a frame of agent a: the reply to a message, a channel error to a malformed frame and to one that is
--- longer than its channel
+-- the answer to a frame of agent a: the reply to a message, a channel error to a malformed frame
+-- and to one that is longer than its channel
 abbrev pub answer_in : Board → ℕ → Frame → Situation → Answer
-answer_in board a (Good m) s = if fits_channel board a m then Reply (reply_in board a m s) else ChannelError
+answer_in board a (Good m) s = if fits_channel board a m then Reply (reply_in board a m s)
+    else ChannelError
 answer_in board a (Malformed len header) s = ChannelError
 
--- the answer to a frame whose change the hardware refused: the message's header, and the status of the fault alone
+-- the answer to a frame whose change the hardware refused: the message's header, and the status of
+-- the fault alone
 abbrev pub failed_answer : Frame → Fault → Answer
 failed_answer (Good m) fault = Reply (message_with m.header (failed_words fault))
 failed_answer (Malformed len header) fault = ChannelError
 
--- the commands of all protocols as the relation that each protocol is; those of the base protocol change no domain and no clock
+-- the commands of all protocols as the relation that each protocol is; those of the base protocol
+-- change no domain and no clock
 abbrev pub commands : Board → ℕ → Protocol Situation codec.Command
 commands board a = record {
   may = λ s. may board s.allowed;

@@ -11,9 +11,11 @@ use Rattle.scmi_core.specs.declared.said.Saying.TheVariants as saying
 abbrev pub next_effect : Standing → Option Effect
 next_effect p = option_map (λ set. setting_effect set.setting) (slice_get p.tables.pending 0)
 
--- that it made a change, or refused it with a fault: one that is named, or that of the first pending set
+-- that it made a change, or refused it with a fault: one that is named, or that of the first
+-- pending set
 abbrev pub ask_of : Saying → Option Asked
 ask_of (saying.Made effect) = Some (Made effect)
 ask_of (saying.Refused effect fault) = Some (Refused effect fault)
 ask_of (saying.Completed platform) = option_map Made (next_effect platform.now)
-ask_of (saying.Failed platform fault) = option_map (λ effect. Refused effect fault) (next_effect platform.now)
+ask_of (saying.Failed platform fault) =
+    option_map (λ effect. Refused effect fault) (next_effect platform.now)

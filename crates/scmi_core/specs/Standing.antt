@@ -10,7 +10,8 @@ pub record Standing : Type 0 where
   pub board : Board
   pub tables : Tables
 
--- a platform is as this history leaves it: what it will answer is what the definitions give after that history
+-- a platform is as this history leaves it: what it will answer is what the definitions give after
+-- that history
 abbrev pub StandsAfter : Standing → List Event → Type 0
 StandsAfter p h = Agrees p.board p.tables h
 

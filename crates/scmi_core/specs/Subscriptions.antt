@@ -19,7 +19,8 @@ subscription a d s =
 -- what a deed says about it: a restart of the agent ends its requests, as a reset does (own)
 abbrev pub subscription_at : Board → ℕ → ℕ → Deed → Option Bool
 subscription_at board a d deed =
-    option_or (subscription_after_reset a (restarted_by deed.event)) (option_and_then (subscription a d) (success_at board deed.event deed.reply))
+    option_or (subscription_after_reset a (restarted_by deed.event))
+    (option_and_then (subscription a d) (success_at board deed.event deed.reply))
 
 -- an agent is notified of a domain if its latest request, reset or restart says so (DEN0056B, power
 -- domain management protocol)

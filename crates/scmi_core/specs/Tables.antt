@@ -40,7 +40,8 @@ situation_in a t =
 
 -- this is a clock of the board that is free and has a pending set in the tables
 abbrev pub CanSettleIn : Board → Tables → ℕ → Type 0
-CanSettleIn board t clock = (clock < length board.clocks) × (is_free board clock ≡ true) × (has_set_of (resource.Clock clock) t.pending ≡ true)
+CanSettleIn board t clock = (clock < length board.clocks) × (is_free board clock ≡ true)
+    × (has_set_of (resource.Clock clock) t.pending ≡ true)
 
 -- a thing is one of the board
 abbrev pub IsThing : Board → Thing → Type 0

@@ -25,21 +25,26 @@ payload_count mark.RateReported size = 2
 payload_count mark.RateSettled size = 2
 payload_count _ size = 0
 
--- the event of a mark, a size, a header and the payload words that follow them; of a report and of a settled rate the size is the
--- domain or clock, the header is a state or an enabled bit, and the payload is the two words of a rate
+-- the event of a mark, a size, a header and the payload words that follow them; of a report and of
+-- a settled rate the size is the domain or clock, the header is a state or an enabled bit, and the
+-- payload is the two words of a rate
 abbrev pub event_of : Mark → ℕ → ℕ → List ℕ → Event
-event_of (mark.Message a) size header payload = Command a (frame.Good (message_with (header_of header) payload))
+event_of (mark.Message a) size header payload =
+    Command a (frame.Good (message_with (header_of header) payload))
 event_of (mark.Malformed a) size header payload = Command a (frame.Malformed size header)
 event_of (mark.Sent a) size header payload = Sent a
-event_of (mark.Failed a fault) size header payload = CommandFailed a (frame.Good (message_with (header_of header) payload)) fault
+event_of (mark.Failed a fault) size header payload =
+    CommandFailed a (frame.Good (message_with (header_of header) payload)) fault
 event_of (mark.Restarted a) size header payload = Restarted a
 event_of (mark.Promoted place) size header payload = Promoted place
 event_of mark.Advance size header payload = Advance
 event_of (mark.AdvanceFailed fault) size header payload = AdvanceFailed fault
 event_of mark.StateReported size header payload = Reported (effect.State size header)
-event_of mark.RateReported size header payload = Reported (effect.Rate size (rate_of (get_or payload 0 0) (get_or payload 1 0)))
+event_of mark.RateReported size header payload =
+    Reported (effect.Rate size (rate_of (get_or payload 0 0) (get_or payload 1 0)))
 event_of mark.EnabledReported size header payload = Reported (effect.Enabled size (header == 1))
-event_of mark.RateSettled size header payload = Settled size (rate_of (get_or payload 0 0) (get_or payload 1 0))
+event_of mark.RateSettled size header payload =
+    Settled size (rate_of (get_or payload 0 0) (get_or payload 1 0))
 
 -- the first n events of some words
 unfoldable pub events_of : ℕ → List ℕ → List Event

@@ -99,9 +99,11 @@ fault_in _ = HardwareError
 
 -- the change that a success or a completed set makes
 abbrev pub change_of : Board → Option Success → Option PendingSet → Option Change
-change_of board success done = option_or (option_map completion done) (option_and_then (change_now board) success)
+change_of board success done =
+    option_or (option_map completion done) (option_and_then (change_now board) success)
 
--- what the hardware made by itself, as a change: no agent caused it, and so the platform did, whose number is 0
+-- what the hardware made by itself, as a change: no agent caused it, and so the platform did, whose
+-- number is 0
 abbrev pub change_reported : Effect → Change
 change_reported effect = given 0 effect
 
@@ -110,21 +112,26 @@ abbrev pub reported : Event → Option Change
 reported (Reported effect) = Some (change_reported effect)
 reported _ = None
 
--- the change that a deed makes for a command, at once or as its set completes, given the deeds before it
+-- the change that a deed makes for a command, at once or as its set completes, given the deeds
+-- before it
 abbrev pub commanded_by : Board → List Deed → Deed → Option Change
-commanded_by board before deed = change_of board (success_at board deed.event deed.reply) (completed_set board before deed.event)
+commanded_by board before deed =
+    change_of board (success_at board deed.event deed.reply) (completed_set board before deed.event)
 
--- the change that a deed makes, given the deeds before it: one that the hardware reported, or one for a command
+-- the change that a deed makes, given the deeds before it: one that the hardware reported, or one
+-- for a command
 abbrev pub change_by : Board → List Deed → Deed → Option Change
 change_by board before deed = option_or (reported deed.event) (commanded_by board before deed)
 
 -- the changes of a history, in order
 abbrev pub changes : Board → List Deed → List Change
-changes board h = flat_map_with_prefix (λ before deed. option_to_list (change_by board before deed)) h
+changes board h =
+    flat_map_with_prefix (λ before deed. option_to_list (change_by board before deed)) h
 
 -- the changes of a history but those that the hardware reported, in order
 abbrev pub commanded_changes : Board → List Deed → List Change
-commanded_changes board h = flat_map_with_prefix (λ before deed. option_to_list (commanded_by board before deed)) h
+commanded_changes board h =
+    flat_map_with_prefix (λ before deed. option_to_list (commanded_by board before deed)) h
 
 -- the board lacks the domain or clock of a report
 abbrev pub HasNoResource : Board → Effect → Type 0
@@ -138,7 +145,8 @@ HasNoState board (effect.State d state) = (d < length board.domains) × (is_stat
 HasNoState board (effect.Rate c rate) = ⊥
 HasNoState board (effect.Enabled c enabled) = ⊥
 
--- the hardware may report this: the board has the domain or clock, and a domain's state is ON or OFF; a clock may have any rate
+-- the hardware may report this: the board has the domain or clock, and a domain's state is ON or
+-- OFF; a clock may have any rate
 abbrev pub IsReportable : Board → Effect → Type 0
 IsReportable board (effect.State d state) = (d < length board.domains) × (is_state state ≡ true)
 IsReportable board (effect.Rate c rate) = c < length board.clocks

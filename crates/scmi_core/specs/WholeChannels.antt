@@ -1,4 +1,5 @@
--- What the definitions give on a whole channel, of 64 words and both ways: what they give if no channel is shorter, and none one way.
+-- What the definitions give on a whole channel, of 64 words and both ways: what they give if no
+-- channel is shorter, and none one way.
 use Rattle.std.specs.Prelude.{◌≡◌, ℕ, ◌-◌, ◌*◌, ◌+◌, ◌^◌, ◌≤◌, ◌&&◌, ◌||◌, Bool, not, List, [], ◌∷◌, length, take, drop, if◌then◌else◌, min, is_none}
 use Rattle.std.specs.List.{flat_map}
 use Rattle.scmi_codec.specs.Rate.{rate_words}
@@ -21,11 +22,13 @@ use Rattle.scmi_core.specs.Situation.{Situation}
 abbrev pub DescribesRates : List ℕ → ℕ → Type 0
 DescribesRates list index =
     rates_words whole_channel (rates.list list) index
-    ≡ rates_word (length list - index - min 31 (length list - index)) (min 31 (length list - index)) ∷ flat_map rate_words (take (min 31 (length list - index)) (drop index list))
+    ≡ rates_word (length list - index - min 31 (length list - index)) (min 31 (length list - index))
+    ∷ flat_map rate_words (take (min 31 (length list - index)) (drop index list))
 
 -- 8 pending sets are announced
 abbrev pub AnnouncesSets : Board → Type 0
-AnnouncesSets board = attributes_reply board whole_channel ≡ 0 ∷ (8 * 2 ^ 16 + length board.clocks) ∷ []
+AnnouncesSets board =
+    attributes_reply board whole_channel ≡ 0 ∷ (8 * 2 ^ 16 + length board.clocks) ∷ []
 
 -- the checks of a set of a rate are those of the command and the clock alone
 abbrev pub ChecksRateSet : Board → (may busy room : Bool) → (flags c rate : ℕ) → Type 0
@@ -46,7 +49,11 @@ ChecksStateSet board may busy room flags d state =
     ≡ reply_unless (
     (no_domain board d, NotFound)
     ∷ (other_bits flags || not (is_state state), InvalidParameters)
-    ∷ (not (if bit_0 flags then (domain_at board d).asynchronous else (domain_at board d).synchronous), NotSupported)
+    ∷ (
+      not (if bit_0 flags then (domain_at board d).asynchronous
+          else (domain_at board d).synchronous),
+      NotSupported,
+    )
     ∷ (not may, Denied)
     ∷ (busy || (bit_0 flags && not room), Busy)
     ∷ [])
@@ -66,10 +73,12 @@ ChecksRequest board may d enable =
 
 -- a domain's attributes are its own
 abbrev pub ShowsAttributes : Domain → Type 0
-ShowsAttributes row = attributes whole_channel row ≡ bit row.notify 0x80000000 + bit row.asynchronous 0x40000000 + bit row.synchronous 0x20000000
+ShowsAttributes row = attributes whole_channel row
+    ≡ bit row.notify 0x80000000 + bit row.asynchronous 0x40000000 + bit row.synchronous 0x20000000
 
 -- each message, which has at most 64 words, has its reply, and is answered with it
 abbrev pub AnswersEach : Board → ℕ → Message → Situation → Type 0
 AnswersEach board a m s =
     channel_of board a ≡ whole_channel → length m.payload.items ≤ 64
-    → (words_given board a s m ≡ reply_words board a s (command_on board m)) × (answer_in board a (Good m) s ≡ Reply (reply_in board a m s))
+    → (words_given board a s m ≡ reply_words board a s (command_on board m))
+    × (answer_in board a (Good m) s ≡ Reply (reply_in board a m s))

@@ -1,4 +1,5 @@
--- Rows as programs print them, which the prover reads by the definitions: each has the same sixteen bytes.
+-- Rows as programs print them, which the prover reads by the definitions: each has the same sixteen
+-- bytes.
 use Rattle.std.proofs.Common.{◌≡◌, ℕ, Bool, List, [], ◌∷◌, ◌++◌, length, map, replicate, Option, None, Some, true, false, codes, refl}
 use Rattle.hex.specs.Hex.{decode_pairs}
 use Rattle.std.specs.List.{slice_split}
@@ -21,7 +22,8 @@ use Rattle.scmi_decode.specs.Row.{RowView, row_of, without_prefix, parts_at, par
 use Rattle.scmi_decode.specs.declared.form.Form.{Form}
 use Rattle.scmi_decode.specs.declared.form.Form.TheVariants.{Plain, Marked, Offset, Equals, Value}
 
--- the second row of an area with a POWER_STATE_SET: 0, a length of 16, the header word 0x001c4404, and 1
+-- the second row of an area with a POWER_STATE_SET: 0, a length of 16, the header word 0x001c4404,
+-- and 1
 abbrev pub sixteen_bytes : List ℕ
 sixteen_bytes = 0 ∷ 0 ∷ 0 ∷ 0 ∷ 0x10 ∷ 0 ∷ 0 ∷ 0 ∷ 0x04 ∷ 0x44 ∷ 0x1C ∷ 0 ∷ 1 ∷ 0 ∷ 0 ∷ 0 ∷ []
 
@@ -32,7 +34,8 @@ pub record ReadRow : Type 0 where
   pub bytes : Option (List ℕ)
 
 abbrev pub read_row : List ℕ → Option ReadRow
-read_row line = option_map (λ r. record { form = r.form; address = r.address; bytes = settled r.order r.cells }) (row_of line)
+read_row line = option_map (λ r.
+    record { form = r.form; address = r.address; bytes = settled r.order r.cells }) (row_of line)
 
 -- lines of which each is this row
 abbrev pub AreRead : Option ReadRow → List (List ℕ) → Type 0
@@ -55,7 +58,8 @@ pub rows :
     -- xxd -p and xxd -i, and od without addresses
     × AreRead (Some (row_at Plain 0)) (
     codes "000000001000000004441c0001000000"
-    ∷ codes "  0x00, 0x00, 0x00, 0x00, 0x10, 0x00, 0x00, 0x00, 0x04, 0x44, 0x1c, 0x00, 0x01, 0x00, 0x00, 0x00,"
+    ∷ codes
+    "  0x00, 0x00, 0x00, 0x00, 0x10, 0x00, 0x00, 0x00, 0x04, 0x44, 0x1c, 0x00, 0x01, 0x00, 0x00, 0x00,"
     ∷ codes " 0000001000000000 00000001001c4404"
     ∷ [])
     -- hexdump, and od in each size of groups, and beside a column of text that shows their order
@@ -109,9 +113,11 @@ pub rows :
     ∷ codes "00000000: 0000 0000 1000 0000 0444 1c00 0100 0000"
     ∷ [])
     -- four bytes in a last row are no bits
-    × (read_row (codes "000040 00000000                             >....<") ≡ Some (record { form = Offset; address = 0x40; bytes = Some (0 ∷ 0 ∷ 0 ∷ 0 ∷ []) }))
+    × (read_row (codes "000040 00000000                             >....<")
+    ≡ Some (record { form = Offset; address = 0x40; bytes = Some (0 ∷ 0 ∷ 0 ∷ 0 ∷ []) }))
     -- an address and a value
-    × (read_row (codes "0x2e000018 0x001C4404") ≡ Some (record { form = Marked; address = 0x2E000018; bytes = Some (0x04 ∷ 0x44 ∷ 0x1C ∷ 0 ∷ []) }))
+    × (read_row (codes "0x2e000018 0x001C4404") ≡ Some (record
+    { form = Marked; address = 0x2E000018; bytes = Some (0x04 ∷ 0x44 ∷ 0x1C ∷ 0 ∷ []) }))
     -- what is no row: a prompt, and bits in a row and in a shorter one
     × AreRead None (
     codes "=> md.l 0x2e000000 0x47"
@@ -154,7 +160,8 @@ unfolding row_of without_prefix parts_at parts_row marked_parts offset_parts pip
 columns = (refl, refl)
 
 -- a number without leading zeros
-pub devmem2 : read_row (codes "Value at address 0x45000018 (0xffff8018): 0x1C4404") ≡ Some (record { form = Value; address = 0x45000018; bytes = Some (0x04 ∷ 0x44 ∷ 0x1C ∷ 0 ∷ []) })
+pub devmem2 : read_row (codes "Value at address 0x45000018 (0xffff8018): 0x1C4404") ≡ Some
+    (record { form = Value; address = 0x45000018; bytes = Some (0x04 ∷ 0x44 ∷ 0x1C ∷ 0 ∷ []) })
 unfolding row_of without_prefix parts_at parts_row marked_parts offset_parts piped_parts address_of decode_pairs
 devmem2 = refl
 
@@ -204,11 +211,13 @@ AreWide are lines =
 pub wide_rows :
     AreWide true (
     codes "10000000 0000000000000000 0000001000000000 00000001001c4404 4000000000000000 00000000"
-    ∷ codes "0000000 00000000 00000000 00000000 00000000 00000000 00000010 001c4404 00000001 00000000"
+    ∷ codes
+    "0000000 00000000 00000000 00000000 00000000 00000000 00000010 001c4404 00000001 00000000"
     ∷ [])
     × AreWide false (
     codes "10000000 0000000000000000 0000001000000000 00000001001c4404 4000000000000000"
-    ∷ codes "00000000 00000000 00000000 00000000 00000000 00000010 001c4404 00000001 00000000 40000000"
+    ∷ codes
+    "00000000 00000000 00000000 00000000 00000000 00000010 001c4404 00000001 00000000 40000000"
     ∷ [])
 wide_rows = (refl, refl)
 
@@ -251,8 +260,8 @@ pub pairs :
     -- the last line of od, which filled up the last number, also beside a size of areas
     × LackOf areas_of_60 (Some lack.WideRow) (
     (codes "10000000" ++ eight_area_words, codes "1000001e") ∷ [])
-    -- words without addresses: two rows, and a row and the rest of an area; 284 bytes as numbers of 64 bits,
-    -- of which od fills up the last; and 64 and 60 bytes
+    -- words without addresses: two rows, and a row and the rest of an area; 284 bytes as numbers of
+    -- 64 bits, of which od fills up the last; and 64 and 60 bytes
     × LackOf Whole (Some lack.Part) (
     (eight_area_words ++ eight_zeros, eight_zeros ++ eight_zeros)
     ∷ (eight_area_words ++ eight_zeros, codes "40000000 00000000")
@@ -284,8 +293,10 @@ abbrev pub NoEnd : List ((List ℕ) × List ℕ) → Type 0
 NoEnd pairs = map (λ p. ends_at p.0 p.1) pairs ≡ replicate (length pairs) (Some None)
 
 pub ends :
-    (ends_at (codes "000110 0000000000000000 0000000000000000") (codes "00011c") ≡ Some (Some 0x11C))
-    × (ends_at (codes "0000420 0000000000000000 0000000000000000") (codes "0000434") ≡ Some (Some 284))
+    (ends_at (codes "000110 0000000000000000 0000000000000000") (codes "00011c")
+    ≡ Some (Some 0x11C))
+    × (ends_at (codes "0000420 0000000000000000 0000000000000000") (codes "0000434")
+    ≡ Some (Some 284))
     -- an end before the last number, and bytes behind the end
     × NoEnd (
     (codes "000110 0000000000000000 0000000000000000", codes "000118")

@@ -8,12 +8,14 @@ abbrev HasFew : Said → Type 0
 HasFew row = (length row.asks ≤ 4) × (length row.gives ≤ 4) × (length row.later ≤ 4)
 
 abbrev has_few : Said → Bool
-has_few row = nat_le (length row.asks) 4 && nat_le (length row.gives) 4 && nat_le (length row.later) 4
+has_few row =
+    nat_le (length row.asks) 4 && nat_le (length row.gives) 4 && nat_le (length row.later) 4
 
 few_in : (id : ℕ) (rows : List Said) → list_all has_few rows ≡ true → IfSome (row_in id rows) HasFew
 few_in id [] few = tt
 few_in id (row ∷ rows) few = pick (row.id == id) (few_in id rows (grind arith)) where
-  pick : (b : Bool) → IfSome (row_in id rows) HasFew → IfSome (if b then Some row else row_in id rows) HasFew
+  pick : (b : Bool) → IfSome (row_in id rows) HasFew
+      → IfSome (if b then Some row else row_in id rows) HasFew
   pick true rest = (grind arith, grind arith, grind arith)
   pick false rest = rest
 
@@ -22,6 +24,8 @@ unfolding rows_of
 few_of protocol = grind arith
 
 pub few : (protocol id : ℕ) (o : Option HeldRow) → option_map said o ≡ listed_row protocol id
-    → IfSome o (λ row. (length row.asks.now ≤ 4) × (length row.gives.now ≤ 4) × (length row.later.now ≤ 4))
+    → IfSome o
+    (λ row. (length row.asks.now ≤ 4) × (length row.gives.now ≤ 4) × (length row.later.now ≤ 4))
 few protocol id None e = tt
-few protocol id (Some row) e = subst (λ o. IfSome o HasFew) (sym e) (few_in id (rows_of protocol) (few_of protocol))
+few protocol id (Some row) e =
+    subst (λ o. IfSome o HasFew) (sym e) (few_in id (rows_of protocol) (few_of protocol))

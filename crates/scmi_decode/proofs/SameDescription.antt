@@ -1,4 +1,5 @@
--- Areas have the same description if and only if they have the same frame and their channels are in the same state.
+-- Areas have the same description if and only if they have the same frame and their channels are in
+-- the same state.
 use Rattle.std.proofs.Common.{◌≡◌, ℕ, ◌/◌, ◌%◌, Bool, true, false, if◌then◌else◌, ◌==◌, ◌&&◌, List, Option, Some, None, refl, sym, ap, ◌∙◌, arith}
 use Rattle.std.proofs.lemmas.Bool.Decides.{nat_tests}
 use Rattle.scmi_codec.specs.Area.{frame_of, status_at}
@@ -40,7 +41,8 @@ Has n f d = held_in d ≡ (n, f)
 p2a-has : (free : Bool) (m : Message) → Has (by_free free) (Good m) (described_p2a free m)
 p2a-has free m = by_kind (m.header.kind == 2) (m.header.kind == 3)
   where
-    by_kind : (a b : Bool) → Has (by_free free) (Good m) (if a then is.Delayed free m else if b then is.Notification free m else is.Foreign free m)
+    by_kind : (a b : Bool) → Has (by_free free) (Good m)
+        (if a then is.Delayed free m else if b then is.Notification free m else is.Foreign free m)
     by_kind true b = refl
     by_kind false true = refl
     by_kind false false = refl
@@ -49,14 +51,16 @@ posted-has : (f : Frame) → Has 0 f (described_posted f)
 posted-has (Malformed len header) = refl
 posted-has (Good m) = by_kind (m.header.kind == 0)
   where
-    by_kind : (a : Bool) → Has 0 (Good m) (if a then is.Command m (command_of m) else described_p2a false m)
+    by_kind : (a : Bool)
+        → Has 0 (Good m) (if a then is.Command m (command_of m) else described_p2a false m)
     by_kind true = refl
     by_kind false = p2a-has false m
 
 free-has : (f : Frame) → Has 1 f (described_left false f)
 free-has (Malformed len header) = by_zeros (len == 0) (header == 0) refl refl
   where
-    by_zeros : (a b : Bool) → (len == 0) ≡ a → (header == 0) ≡ b → Has 1 (Malformed len header) (if a && b then is.Unused else is.Malformed true len header)
+    by_zeros : (a b : Bool) → (len == 0) ≡ a → (header == 0) ≡ b
+        → Has 1 (Malformed len header) (if a && b then is.Unused else is.Malformed true len header)
     by_zeros true true ha hb =
         let no_length : 0 ≡ len = grind (arith, nat_tests) in
         let no_header : 0 ≡ header = grind (arith, nat_tests) in
@@ -81,11 +85,14 @@ low_bit : (n : ℕ) → (n % 2 == 1) ≡ true → (n / 2 % 2 == 1) ≡ false →
 low_bit n odd error = grind (arith, nat_tests)
 
 abbrev IsOfArea : List ℕ → Type 0
-IsOfArea area = (described_area area ≡ described_at (state_of area) (frame_of area)) × Has (state_of area) (frame_of area) (described_area area)
+IsOfArea area = (described_area area ≡ described_at (state_of area) (frame_of area))
+    × Has (state_of area) (frame_of area) (described_area area)
 
-by_bits : (area : List ℕ) (odd error : Bool) → (status_at area % 2 == 1) ≡ odd → (status_at area / 2 % 2 == 1) ≡ error → IsOfArea area
+by_bits : (area : List ℕ) (odd error : Bool) → (status_at area % 2 == 1) ≡ odd
+    → (status_at area / 2 % 2 == 1) ≡ error → IsOfArea area
 by_bits area true true odd error = rw (odd, error, low_bits (status_at area) odd error) (refl, refl)
-by_bits area true false odd error = rw (odd, error, low_bit (status_at area) odd error) (refl, free-has (frame_of area))
+by_bits area true false odd error =
+    rw (odd, error, low_bit (status_at area) odd error) (refl, free-has (frame_of area))
 by_bits area false error odd _ = rw odd (refl, posted-has (frame_of area))
 
 is_of_area : (area : List ℕ) → IsOfArea area
@@ -94,7 +101,8 @@ is_of_area area = by_bits area (status_at area % 2 == 1) (status_at area / 2 % 2
 -- areas with the same frame, whose channels are in the same state, have the same description
 pub described_from_alike : (a b : List ℕ) → StandAlike a b → described_area a ≡ described_area b
 described_from_alike a b same =
-    (is_of_area a).0 ∙ ap (λ n. described_at n (frame_of a)) same.state ∙ ap (described_at (state_of b)) same.frame ∙ sym (is_of_area b).0
+    (is_of_area a).0 ∙ ap (λ n. described_at n (frame_of a)) same.state
+    ∙ ap (described_at (state_of b)) same.frame ∙ sym (is_of_area b).0
 
 -- areas with the same description have the same frame, and their channels are in the same state
 pub alike_from_described : (a b : List ℕ) → described_area a ≡ described_area b → StandAlike a b

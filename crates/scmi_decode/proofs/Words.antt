@@ -6,7 +6,8 @@ use Rattle.scmi_decode.specs.Traced.{words_behind}
 
 -- one word more
 pub words_more : (words bytes : List ℕ) → 4 ≤ length bytes → length words < PAYLOAD_WORDS
-    → words_behind words bytes ≡ words_behind (words ++ word_at 0 (slice_index bytes 0 ∷ slice_index bytes 1 ∷ slice_index bytes 2 ∷ slice_index bytes 3 ∷ []) ∷ []) (drop 4 bytes)
+    → words_behind words bytes ≡ words_behind (words ++ word_at 0 (slice_index bytes 0
+    ∷ slice_index bytes 1 ∷ slice_index bytes 2 ∷ slice_index bytes 3 ∷ []) ∷ []) (drop 4 bytes)
 words_more words [] long few = grind arith
 words_more words (a ∷ []) long few = grind arith
 words_more words (a ∷ b ∷ []) long few = grind arith

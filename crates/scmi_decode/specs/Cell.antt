@@ -19,14 +19,16 @@ later_bytes (b ∷ bs) = bs
 abbrev pub cells_of : (straight turned shown : List ℕ) → List Cell
 cells_of [] turned shown = []
 cells_of (b ∷ bs) turned shown =
-    record { straight = b; turned = first_byte turned; shown = first_byte shown } ∷ cells_of bs (later_bytes turned) (later_bytes shown)
+    record { straight = b; turned = first_byte turned; shown = first_byte shown }
+    ∷ cells_of bs (later_bytes turned) (later_bytes shown)
 
 -- the byte of a cell in one order
 abbrev pub byte_in : (is_turned : Bool) → Cell → ℕ
 byte_in false c = c.straight
 byte_in true c = c.turned
 
--- what a column of text shows of a byte: a printable character of ASCII as it is, and a point for any other byte
+-- what a column of text shows of a byte: a printable character of ASCII as it is, and a point for
+-- any other byte
 abbrev pub character_of : ℕ → ℕ
 character_of b = if nat_lt 31 b && nat_lt b 127 then b else 46
 
@@ -42,7 +44,8 @@ are_alike cells = list_all (λ c. c.straight == c.turned) cells
 abbrev pub bytes_in : (is_turned : Bool) → List Cell → List ℕ
 bytes_in is_turned cells = map (byte_in is_turned) cells
 
--- the order that is shown, or else this one, if the column of text shows straight bytes, and if it shows turned ones
+-- the order that is shown, or else this one, if the column of text shows straight bytes, and if it
+-- shows turned ones
 abbrev pub order_by : (straight turned : Bool) → Order → Order
 order_by true false o = Straight
 order_by false true o = Turned

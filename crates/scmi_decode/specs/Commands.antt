@@ -13,4 +13,5 @@ asked_fields (Some row) words = fields_by row.asks words
 
 -- the fields of a command
 abbrev pub command_fields : Command → List Field
-command_fields c = asked_fields (listed_row (command_header c 0).protocol (command_header c 0).id) (command_words c)
+command_fields c = asked_fields (listed_row (command_header c 0).protocol (command_header c 0).id)
+    (command_words c)

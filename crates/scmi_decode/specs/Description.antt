@@ -16,12 +16,14 @@ use Rattle.scmi_decode.specs.declared.description.Description.TheVariants as is
 
 -- what a message of another type than 0 is
 abbrev pub described_p2a : Bool → Message → Description
-described_p2a free m = if m.header.kind == 2 then is.Delayed free m else if m.header.kind == 3 then is.Notification free m else is.Foreign free m
+described_p2a free m = if m.header.kind == 2 then is.Delayed free m else if m.header.kind == 3
+    then is.Notification free m else is.Foreign free m
 
 -- what a frame is in a busy channel
 abbrev pub described_posted : Frame → Description
 described_posted (frame.Malformed len header) = is.Malformed false len header
-described_posted (frame.Good m) = if m.header.kind == 0 then is.Command m (command_of m) else described_p2a false m
+described_posted (frame.Good m) = if m.header.kind == 0 then is.Command m (command_of m)
+    else described_p2a false m
 
 -- what a message is by the status that it has as a reply, if it has the form of one
 abbrev pub described_by_status : Message → Option Status → Description
@@ -35,8 +37,10 @@ described_response m = described_by_status m (response_status m)
 
 -- what a frame is in a free channel without the error bit
 abbrev pub described_free : Frame → Description
-described_free (frame.Malformed len header) = if (len == 0) && (header == 0) then is.Unused else is.Malformed true len header
-described_free (frame.Good m) = if m.header.kind == 0 then described_response m else described_p2a true m
+described_free (frame.Malformed len header) = if (len == 0) && (header == 0) then is.Unused
+    else is.Malformed true len header
+described_free (frame.Good m) = if m.header.kind == 0 then described_response m
+    else described_p2a true m
 
 -- what a frame is in a free channel, with or without the error bit
 abbrev pub described_left : Bool → Frame → Description

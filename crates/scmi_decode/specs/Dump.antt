@@ -31,9 +31,11 @@ bytes_of digits = result_ok (decode_of digits)
 abbrev pub number_bytes : List ℕ → Option (List ℕ)
 number_bytes digits = option_map reverse (bytes_of digits)
 
--- the bytes of an item: a number after its mark, or if digits are turned, is its bytes from the lowest on; any other item is bytes in their order
+-- the bytes of an item: a number after its mark, or if digits are turned, is its bytes from the
+-- lowest on; any other item is bytes in their order
 abbrev pub item_bytes : (is_turned : Bool) → List ℕ → Option (List ℕ)
-item_bytes is_turned item = if has_mark item then number_bytes (drop 2 item) else if is_turned then number_bytes item else bytes_of item
+item_bytes is_turned item = if has_mark item then number_bytes (drop 2 item) else if is_turned
+    then number_bytes item else bytes_of item
 
 -- what a vector is once the bytes of an item were added, if it has some, and whether it has
 abbrev pub Adds : Option (List ℕ) → (added : Bool) → (old new : List ℕ) → Type 0
@@ -52,7 +54,8 @@ both_bytes _ _ = None
 -- the bytes of items, one after the other
 abbrev pub items_bytes : (is_turned : Bool) → List (List ℕ) → Option (List ℕ)
 items_bytes is_turned [] = Some []
-items_bytes is_turned (item ∷ items) = both_bytes (item_bytes is_turned item) (items_bytes is_turned items)
+items_bytes is_turned (item ∷ items) =
+    both_bytes (item_bytes is_turned item) (items_bytes is_turned items)
 
 -- the bytes of a line, if each of its items has some
 abbrev pub line_bytes : (is_turned : Bool) → List ℕ → Option (List ℕ)

@@ -13,7 +13,8 @@ use Rattle.scmi_decode.specs.declared.message_words.TheConstants.{COMMAND, RESPO
 
 -- what follows a name at the beginning of an item, if the item begins with it
 abbrev pub behind_name : (name item : List ℕ) → Option (List ℕ)
-behind_name name item = if starts_with nat_eq item name then Some (drop (length name) item) else None
+behind_name name item = if starts_with nat_eq item name
+    then Some (drop (length name) item) else None
 
 -- the first of two that is there
 abbrev pub first_there : Option (List ℕ) → Option (List ℕ) → Option (List ℕ)
@@ -45,7 +46,8 @@ abbrev pub kind_of : Option (List ℕ) → Option EventKind
 kind_of None = None
 kind_of (Some t) =
     if bytes_eq t COMMAND.now then Some Command else if bytes_eq t RESPONSE.now then Some Response
-    else if bytes_eq t DELAYED.now then Some Delayed else if bytes_eq t NOTIFICATION.now then Some Notification else None
+    else if bytes_eq t DELAYED.now then Some Delayed else if bytes_eq t NOTIFICATION.now
+    then Some Notification else None
 
 -- the message type of an event's message
 abbrev pub message_type : EventKind → ℕ
@@ -64,13 +66,21 @@ has_status Notification = false
 -- the header of an event's message, of what it is of, its protocol, its message id and its token
 abbrev pub header_with : EventKind → (protocol id token : Option ℕ) → Option HeaderFields
 header_with k (Some protocol) (Some id) (Some token) =
-    Some (record { reserved = 0; token = token; protocol = protocol; kind = message_type k; id = id })
+    Some (record {
+      reserved = 0;
+      token = token;
+      protocol = protocol;
+      kind = message_type k;
+      id = id;
+    })
 header_with k _ _ _ = None
 
--- the header of an event's message: `pt=` has its protocol, `msg_id=` its message id and `seq=` its token
+-- the header of an event's message: `pt=` has its protocol, `msg_id=` its message id and `seq=` its
+-- token
 unfoldable pub event_header : EventKind → List (List ℕ) → Option HeaderFields
 event_header k items =
-    header_with k (field_number 256 (value_of PROTOCOL.now items)) (field_number 256 (value_of MESSAGE_ID.now items))
+    header_with k (field_number 256 (value_of PROTOCOL.now items))
+    (field_number 256 (value_of MESSAGE_ID.now items))
     (field_number 1024 (value_of TOKEN.now items))
 
 -- the word of a negative number
@@ -86,7 +96,8 @@ begins_with_minus (b ∷ bs) = b == 45
 -- the word of a number with or without a sign, in decimal digits
 unfoldable pub signed_word : List ℕ → Option ℕ
 signed_word digits =
-    if begins_with_minus digits then negative_word (digits_number 10 0x80000001 (drop 1 digits)) else digits_number 10 0x80000000 digits
+    if begins_with_minus digits then negative_word (digits_number 10 0x80000001 (drop 1 digits))
+    else digits_number 10 0x80000000 digits
 
 -- the word of the field `s=`
 abbrev pub status_word : Option (List ℕ) → Option ℕ
@@ -103,13 +114,16 @@ abbrev pub status_bytes : Option ℕ → Option (List ℕ)
 status_bytes None = None
 status_bytes (Some word) = Some (to_le_bytes w32 word)
 
--- the payload of an event's message: `s=` has its status, if it has one, and `pyld=` the bytes after it
+-- the payload of an event's message: `s=` has its status, if it has one, and `pyld=` the bytes
+-- after it
 unfoldable pub event_payload : EventKind → List (List ℕ) → Option (List ℕ)
 event_payload k items =
-    if has_status k then both_bytes (status_bytes (status_word (value_of STATUS.now items))) (payload_bytes (value_of PAYLOAD.now items))
+    if has_status k then both_bytes (status_bytes (status_word (value_of STATUS.now items)))
+    (payload_bytes (value_of PAYLOAD.now items))
     else payload_bytes (value_of PAYLOAD.now items)
 
--- the status word of the channel that holds an event's message: free with a response, and busy with any other
+-- the status word of the channel that holds an event's message: free with a response, and busy with
+-- any other
 abbrev pub channel_word : EventKind → ℕ
 channel_word Command = 0
 channel_word Response = 1
@@ -118,7 +132,8 @@ channel_word Notification = 0
 
 -- the area that holds a message of this header and payload
 abbrev pub event_area_with : EventKind → Option HeaderFields → Option (List ℕ) → Option (List ℕ)
-event_area_with k (Some h) (Some payload) = message_area (channel_word k) (to_le_bytes w32 (header_word h) ++ payload)
+event_area_with k (Some h) (Some payload) =
+    message_area (channel_word k) (to_le_bytes w32 (header_word h) ++ payload)
 event_area_with k _ _ = None
 
 -- the same, if it is known what the event is of

@@ -15,7 +15,8 @@ is_list _ = false
 
 -- the four words of a name
 abbrev pub name_field : List ℕ → Field
-name_field w = field.Name (slice_index w 0 ∷ slice_index w 1 ∷ slice_index w 2 ∷ slice_index w 3 ∷ [])
+name_field w =
+    field.Name (slice_index w 0 ∷ slice_index w 1 ∷ slice_index w 2 ∷ slice_index w 3 ∷ [])
 
 -- the three words of statistics memory
 abbrev pub statistics_field : List ℕ → Field

@@ -19,7 +19,12 @@ later count (Some n) = Some ((n + count) % 2 ^ 64)
 
 -- the addresses after so many bytes
 abbrev pub column_after : (count : ℕ) → FirstColumn → FirstColumn
-column_after count c = record { hexadecimal = later count c.hexadecimal; decimal = later count c.decimal; octal = later count c.octal; steps = c.steps }
+column_after count c = record {
+  hexadecimal = later count c.hexadecimal;
+  decimal = later count c.decimal;
+  octal = later count c.octal;
+  steps = c.steps;
+}
 
 -- an address, if it is the expected one or at most so many bytes before it
 abbrev pub met : (slack : ℕ) → (expected found : Option ℕ) → Option ℕ
@@ -47,7 +52,8 @@ stepped c = if has_base c && nat_lt c.steps SURE_STEPS then record c { steps = c
 abbrev pub followed : (slack count : ℕ) → (c item : FirstColumn) → FirstColumn
 followed slack count c item = column_after count (stepped (met_by slack c item))
 
--- whether a column may be one of addresses: it counts the bytes of all rows, or it did so of the first three
+-- whether a column may be one of addresses: it counts the bytes of all rows, or it did so of the
+-- first three
 abbrev pub counts : FirstColumn → Bool
 counts c = not (nat_lt c.steps SURE_STEPS) || (nat_lt 0 c.steps && has_base c)
 

@@ -15,7 +15,8 @@ size_of p = channel_bytes p.words
 abbrev pub each_layout : (offset size stride : ℕ) → Result Layout LayoutError
 each_layout offset size stride =
     if is_channel_size size
-    then (if nat_lt stride size then Err refused.Stride else Ok (Each (record { offset = offset; words = channel_words size; gap = stride - size })))
+    then (if nat_lt stride size then Err refused.Stride else Ok
+    (Each (record { offset = offset; words = channel_words size; gap = stride - size })))
     else Err refused.Size
 
 -- the layout of an offset, a size and a stride, each of which may be left out
@@ -38,16 +39,20 @@ pub record Part : Type 0 where
 abbrev pub part_at : (total : ℕ) → (rest bytes : List ℕ) → Part
 part_at total rest bytes = record { start = total - length rest; bytes = bytes }
 
--- the rest of a dump if it has no room for another area: a part if it has a byte, and if no area was before it
+-- the rest of a dump if it has no room for another area: a part if it has a byte, and if no area
+-- was before it
 abbrev pub last_part : Pieces → (total : ℕ) → (rest : List ℕ) → List Part
-last_part p total rest = if nat_lt 0 (length rest) || not (nat_lt p.offset total) then part_at total rest rest ∷ [] else []
+last_part p total rest = if nat_lt 0 (length rest) || not (nat_lt p.offset total)
+    then part_at total rest rest ∷ [] else []
 
--- the areas of one size in the rest of a dump of so many bytes, of which there are at most so many, and what is left after them
+-- the areas of one size in the rest of a dump of so many bytes, of which there are at most so many,
+-- and what is left after them
 abbrev pub parts_from : Pieces → (total most : ℕ) → (rest : List ℕ) → List Part
 parts_from p total zero rest = []
 parts_from p total (suc most) rest =
     if nat_lt (length rest) (size_of p) then last_part p total rest
-    else part_at total rest (take (size_of p) rest) ∷ parts_from p total most (drop p.gap (drop (size_of p) rest))
+    else part_at total rest (take (size_of p) rest)
+    ∷ parts_from p total most (drop p.gap (drop (size_of p) rest))
 
 -- the parts of a dump that are read as areas, in order
 abbrev pub parts_of : Layout → List ℕ → List Part

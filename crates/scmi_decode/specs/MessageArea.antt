@@ -8,9 +8,11 @@ use Rattle.scmi_codec.specs.declared.payload.TheConstants.{PAYLOAD_WORDS}
 abbrev pub fits_area : List ℕ → Bool
 fits_area message = nat_lt 3 (length message) && nat_lt (length message) (4 + 4 * PAYLOAD_WORDS + 1)
 
--- the bytes before the end of a message: a reserved word, the status word, a reserved field and the flags, the length
+-- the bytes before the end of a message: a reserved word, the status word, a reserved field and the
+-- flags, the length
 unfoldable pub message_start : (status : ℕ) → (message : List ℕ) → List ℕ
-message_start status message = replicate 4 0 ++ to_le_bytes w32 status ++ replicate 12 0 ++ to_le_bytes w32 (length message) ++ message
+message_start status message = replicate 4 0 ++ to_le_bytes w32 status ++ replicate 12 0
+    ++ to_le_bytes w32 (length message) ++ message
 
 -- bytes with as many zeros after them as an area has
 abbrev pub padded : List ℕ → List ℕ
@@ -18,4 +20,5 @@ padded bytes = bytes ++ replicate (AREA_BYTES - length bytes) 0
 
 -- the area of a message, header first, in a channel of this status word
 unfoldable pub message_area : (status : ℕ) → (message : List ℕ) → Option (List ℕ)
-message_area status message = if fits_area message then Some (padded (message_start status message)) else None
+message_area status message = if fits_area message
+    then Some (padded (message_start status message)) else None

@@ -83,11 +83,13 @@ alone_bytes line = items_alone (slice_split is_gap line)
 abbrev pub is_message : List (List ℕ) → Bool
 is_message items = is_some (behind_event items) || is_some (behind_got items)
 
--- which bytes of a line that is a dump of its own are areas: a message that is reported is one area, whatever the layout of dumps
+-- which bytes of a line that is a dump of its own are areas: a message that is reported is one
+-- area, whatever the layout of dumps
 abbrev pub items_layout : Layout → List (List ℕ) → Layout
 items_layout l items = if is_message items then Whole else l
 
--- why items have no bytes, if they have none: they may be a row that is too wide, they are no digits, or the order of these is unclear
+-- why items have no bytes, if they have none: they may be a row that is too wide, they are no
+-- digits, or the order of these is unclear
 abbrev pub items_lack : List (List ℕ) → NoBytes
 items_lack items =
     if not (is_message items) && is_wide_row items then lack.WideRow

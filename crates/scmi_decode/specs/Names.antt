@@ -16,4 +16,5 @@ protocol_text protocol = option_map (λ row. row.name) (protocol_row protocol)
 
 -- the name of a notification, by protocol and message id
 abbrev pub notification_text : ℕ → ℕ → Option (List ℕ)
-notification_text protocol id = if (protocol == 0x11) && (id == 0) then Some POWER_STATE_CHANGED.now else None
+notification_text protocol id = if (protocol == 0x11) && (id == 0)
+    then Some POWER_STATE_CHANGED.now else None

@@ -60,7 +60,8 @@ AreRows d (r ∷ rows) end (line ∷ lines) = IsNextRow d line r × AreRows (add
 
 -- the rows of one dump, and its end, are these lines
 abbrev pub IsDumpOf : Layout → List RowView → Option ℕ → List (List ℕ) → Type 0
-IsDumpOf l (r ∷ rows) end (line ∷ lines) = IsRow line r × AreRows (begun (no_dump l) 1 r) rows end lines
+IsDumpOf l (r ∷ rows) end (line ∷ lines) = IsRow line r
+    × AreRows (begun (no_dump l) 1 r) rows end lines
 IsDumpOf l _ _ _ = ⊥
 
 -- the cells of rows, one after the other
@@ -83,10 +84,12 @@ abbrev pub rows_column : FirstColumn → List RowView → FirstColumn
 rows_column c [] = c
 rows_column c (r ∷ rows) = rows_column (column_with c r) rows
 
--- the bytes of rows up to the end of their dump, in the order that a column of text shows, or else in that of the first row; none if their first column may be one of addresses
+-- the bytes of rows up to the end of their dump, in the order that a column of text shows, or else
+-- in that of the first row; none if their first column may be one of addresses
 abbrev pub rows_bytes : List RowView → Option ℕ → Option (List ℕ)
 rows_bytes [] end = None
-rows_bytes (r ∷ rows) end = bytes_beside (rows_column (column_begun r) rows) r.order (cells_to end (rows_next 0 (r ∷ rows)) (rows_cells (r ∷ rows)))
+rows_bytes (r ∷ rows) end = bytes_beside (rows_column (column_begun r) rows) r.order
+    (cells_to end (rows_next 0 (r ∷ rows)) (rows_cells (r ∷ rows)))
 
 -- why they have none
 abbrev pub rows_lack : List RowView → NoBytes
@@ -94,6 +97,9 @@ rows_lack [] = Order
 rows_lack (r ∷ rows) = lack_beside (rows_column (column_begun r) rows)
 
 -- of an input that is one dump, in whatever form, what is found in its bytes is reported
-abbrev pub ReportsForms : Layout → (input : Option (List ℕ)) → (old new : Option (List Finding)) → Type 0
+abbrev pub ReportsForms : Layout → (input : Option (List ℕ))
+    → (old new : Option (List Finding)) → Type 0
 ReportsForms l input old new =
-    IfSome input (λ bytes. (rows : List RowView) (end : Option ℕ) → IsDumpOf l rows end (slice_split is_line_feed bytes) → Reported old new (dump_findings l 1 (rows_lack rows) (rows_bytes rows end)))
+    IfSome input (λ bytes. (rows : List RowView) (end : Option ℕ)
+    → IsDumpOf l rows end (slice_split is_line_feed bytes)
+    → Reported old new (dump_findings l 1 (rows_lack rows) (rows_bytes rows end)))

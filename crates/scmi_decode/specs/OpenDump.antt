@@ -26,9 +26,11 @@ pub record DumpView : Type 0 where
 
 -- no dump, and no area found
 abbrev pub no_dump : Layout → DumpView
-no_dump l = record { layout = l; first = 0; form = Plain; end = no_end; held = no_held; found = false }
+no_dump l =
+    record { layout = l; first = 0; form = Plain; end = no_end; held = no_held; found = false }
 
--- the bytes of a dump, in the order of its digits; none if its first column may be one of addresses, or if it is unclear how often a row repeats
+-- the bytes of a dump, in the order of its digits; none if its first column may be one of
+-- addresses, or if it is unclear how often a row repeats
 abbrev pub dump_bytes : DumpView → Option (List ℕ)
 dump_bytes d = if lacks_rows d.end then None else bytes_beside d.end.column d.end.order d.end.cells
 
@@ -68,11 +70,14 @@ or_row (Some seen) r = seen
 
 -- a row as it is after the rows of a dump: if these have addresses alone, its first item is one too
 abbrev pub seen : DumpView → RowView → RowView
-seen d r = if same_form d.form Offset && same_form r.form Plain then row_at r r.column.hexadecimal else r
+seen d r = if same_form d.form Offset && same_form r.form Plain
+    then row_at r r.column.hexadecimal else r
 
--- whether a row goes on with a dump: it has the same form and groups, follows the last row, and is not longer than the first; and no shorter row came before it
+-- whether a row goes on with a dump: it has the same form and groups, follows the last row, and is
+-- not longer than the first; and no shorter row came before it
 unfoldable pub goes_on : DumpView → RowView → Bool
-goes_on d r = is_open d && same_form d.form r.form && takes d.end r && (same_form r.form Plain || reaches d.end r.address)
+goes_on d r = is_open d && same_form d.form r.form && takes d.end r
+    && (same_form r.form Plain || reaches d.end r.address)
 
 -- a dump that goes on with a row
 unfoldable pub added : DumpView → RowView → DumpView
@@ -80,7 +85,14 @@ added d r = record d { end = extended_to d.end r }
 
 -- a dump that begins with a row, at a line of this number
 unfoldable pub begun : DumpView → ℕ → RowView → DumpView
-begun d number r = record { layout = d.layout; first = number; form = r.form; end = end_of r; held = d.held; found = d.found }
+begun d number r = record {
+  layout = d.layout;
+  first = number;
+  form = r.form;
+  end = end_of r;
+  held = d.held;
+  found = d.found;
+}
 
 -- a dump that ends at an address
 unfoldable pub ended : DumpView → ℕ → DumpView
@@ -120,12 +132,14 @@ abbrev pub end_repeated : Form → EndView → (next : Option ℕ) → EndView
 end_repeated Plain e (Some next) = addressed e next
 end_repeated f e next = repeating e
 
--- whether the addresses of rows of a form, and their base, are known: a dump without addresses has a first column that counts its bytes
+-- whether the addresses of rows of a form, and their base, are known: a dump without addresses has
+-- a first column that counts its bytes
 abbrev pub has_addresses : Form → EndView → Bool
 has_addresses Plain e = counts e.column && is_hexadecimal_alone e.column
 has_addresses f e = is_base_sure e
 
--- whether the next address will show how often the last row repeats: addresses are known, and no shorter row and no unclear `*` came before
+-- whether the next address will show how often the last row repeats: addresses are known, and no
+-- shorter row and no unclear `*` came before
 abbrev pub may_repeat : Form → EndView → Bool
 may_repeat f e = not e.unclear && is_even e && has_addresses f e
 
@@ -148,6 +162,7 @@ is_star d line =
     (is_held d.held || is_open d) && (length (first_item line) == 1)
     && (slice_index (first_item line) 0 == 42) && has_one_item line
 
--- the address of a line that ends a dump as `hexdump` and `od` do: it has an address alone, that at which the dump's bytes end, or any if rows are left out
+-- the address of a line that ends a dump as `hexdump` and `od` do: it has an address alone, that at
+-- which the dump's bytes end, or any if rows are left out
 unfoldable pub end_at : DumpView → List ℕ → Option ℕ
 end_at d line = if is_open d && same_form d.form Offset then line_end d.end line else None

@@ -25,7 +25,8 @@ reading_text r = get_or (map (λ row. row.text.now) READINGS) (reading_place r) 
 
 -- whether an item is a number of several bytes
 abbrev pub is_wide : List ℕ → Bool
-is_wide item = if has_mark item then nat_lt 4 (length item) else (length item == 8) || (length item == 16)
+is_wide item = if has_mark item then nat_lt 4 (length item)
+    else (length item == 8) || (length item == 16)
 
 -- how rows of a form are read, whose items are wide or not
 abbrev pub rows_reading : Form → Bool → Reading

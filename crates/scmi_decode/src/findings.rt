@@ -15,6 +15,7 @@ pub trait Findings {
     /// Takes a finding. `text` is its line, if that is a dump of its own, or else empty. `Write` if the
     /// output fails.
     fn take(&mut self, finding: &Finding, text: &[u8]) -> Result<(), DecodeError>
-        ensures taken { OnOk result (Reported (taken self.old) (taken self.new) (finding.now ∷ [])) }
+        ensures taken { OnOk result
+            (Reported (taken self.old) (taken self.new) (finding.now ∷ [])) }
         ensures errors { IfErr result (λ e. e ≡ DecodeError.Write) };
 }

@@ -47,7 +47,8 @@ pub(crate) fn behind_event<'a, 'b>(items: &'b [&'a [u8]]) -> Option<&'b [&'a [u8
 /// The area of the message that an agent has got by a line, or else the bytes of its items.
 fn got_or_own(alloc: Global, items: &[&[u8]]) -> Result<Option<Vec<u8>>, AllocError>
     ensures { IfOk result (λ found. option_map (λ bytes. bytes.items) found ≡
-        got_or_own (behind_got (map (λ item. item.now) items.now)) (map (λ item. item.now) items.now)) }
+        got_or_own (behind_got (map (λ item. item.now) items.now))
+        (map (λ item. item.now) items.now)) }
 {
     let Some(behind) = behind_got(items) else {
         return own_bytes(alloc, items);

@@ -155,7 +155,8 @@ fn take_alone<S: Findings>(
 ) -> Result<(), DecodeError>
     ensures taken { OnOk result (Reported (S.taken sink.old) (S.taken sink.new) (
         row_found (judged_by dump.old line.now) number line.now None)) }
-    ensures dump { OnOk result (dump.new ≡ dump_after_row (judged_by dump.old line.now) number line.now
+    ensures dump { OnOk result
+        (dump.new ≡ dump_after_row (judged_by dump.old line.now) number line.now
         (lack_behind dump.old.layout dump.old.held line.now) None) }
     ensures errors { IfErr result (λ e. (e ≡ DecodeError.Memory) ⊎ (e ≡ DecodeError.Write)) }
 {

@@ -17,7 +17,8 @@ pub record ControllerView : Type 0 where
   pub p2a_identities : List (List ℕ)
 
 -- the platform's endpoints are those of the channels with these names, in order
-pub record IsOfLinks (a2p_identities p2a_identities : List (List ℕ)) (platform : ControllerView) : Type 0 where
+pub record IsOfLinks (a2p_identities p2a_identities : List (List ℕ))
+    (platform : ControllerView) : Type 0 where
   pub of_a2p : platform.a2p_identities ≡ a2p_identities
   pub of_p2a : platform.p2a_identities ≡ p2a_identities
 

@@ -25,8 +25,8 @@ pub record Clears (old new : AgentView) : Type 0 where
   pub receives : Receives old.callee message new.callee
   pub same : new ≡ record old { token = new.token; caller = new.caller; callee = new.callee }
 
--- an agent begins its next life: the answer to each command of the life before was read, or the last was left by a close,
--- so that no reply to that life is still to come; its first token is 0
+-- an agent begins its next life: the answer to each command of the life before was read, or the
+-- last was left by a close, so that no reply to that life is still to come; its first token is 0
 pub record BeginsAgain (old new : AgentView) : Type 0 where
   pub clears : Clears old new
   pub token : new.token ≡ 0
@@ -43,9 +43,13 @@ pub record StillWaits (old new : AgentView) : Type 0 where
 abbrev pub between : {T : Type 0} → ℕ → ℕ → List T → List T
 between j k xs = drop j (take k xs)
 
--- the life of agent a that posted its commands j to k - 1, counted from 0, agrees with the history by itself
-pub record LifeAgrees (board : Board) (h : List Event) (a j k : ℕ) (caller : CallerView) : Type 0 where
-  -- its commands that were executed are those that it posted, in order, each once, at most the last left out
-  pub executed : (between j k (frames_of a h) ≡ between j k caller.posted) ⊎ IsAllButLast (between j k (frames_of a h)) (between j k caller.posted)
+-- the life of agent a that posted its commands j to k - 1, counted from 0, agrees with the history
+-- by itself
+pub record LifeAgrees (board : Board) (h : List Event) (a j k : ℕ)
+    (caller : CallerView) : Type 0 where
+  -- its commands that were executed are those that it posted, in order, each once, at most the last
+  -- left out
+  pub executed : (between j k (frames_of a h) ≡ between j k caller.posted)
+      ⊎ IsAllButLast (between j k (frames_of a h)) (between j k caller.posted)
   -- each reply that it read is the answer at the place of its own command
   pub replies : IsPrefixOf (between j k caller.read) (between j k (answers_to board a h))

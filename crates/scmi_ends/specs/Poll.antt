@@ -10,7 +10,12 @@ use Rattle.scmi_link.specs.declared.collected.Collected.TheVariants as collected
 -- one `take` on P2A; what it gives is released at once
 abbrev pub Receives : CalleeView → Option Frame → CalleeView → Type 0
 Receives old None new = TakesNone old new
-Receives old (Some frame) new = (callee_knows_close old ≡ false) × (new ≡ record old { taken = old.taken ++ frame ∷ []; answered = old.answered ++ Released ∷ []; takes = one_more old.takes })
+Receives old (Some frame) new = (callee_knows_close old ≡ false) × (new ≡ record old {
+  taken =
+      old.taken ++ frame ∷ [];
+  answered = old.answered ++ Released ∷ [];
+  takes = one_more old.takes;
+})
 
 -- a count of calls, modulo 2^64, after n more of them
 unfoldable pub more_calls : ℕ → ℕ → ℕ
@@ -25,10 +30,13 @@ after_polls n old = record old { collects = more_calls n old.collects }
 -- after all of them
 abbrev pub Waits : ℕ → CallerView → Collected → CallerView → Type 0
 Waits turns old collected.Nothing new = new ≡ after_polls turns old
-Waits turns old (collected.Got answer) new = (n : ℕ) × (n < turns) × Collects (after_polls n old) (collected.Got answer) new
-Waits turns old collected.Closed new = (n : ℕ) × (n < turns) × Collects (after_polls n old) collected.Closed new
+Waits turns old (collected.Got answer) new = (n : ℕ) × (n < turns)
+    × Collects (after_polls n old) (collected.Got answer) new
+Waits turns old collected.Closed new = (n : ℕ) × (n < turns)
+    × Collects (after_polls n old) collected.Closed new
 
--- how many polls a wait had with this result: all that it may have if there was nothing, else at least one, at most this many
+-- how many polls a wait had with this result: all that it may have if there was nothing, else at
+-- least one, at most this many
 abbrev pub EndsAfter : ℕ → Collected → ℕ → Type 0
 EndsAfter turns collected.Nothing looks = looks ≡ turns
 EndsAfter turns (collected.Got answer) looks = (1 ≤ looks) × (looks ≤ turns)

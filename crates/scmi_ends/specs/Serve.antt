@@ -11,20 +11,32 @@ use Rattle.scmi_link.specs.declared.served.Served.{Served}
 use Rattle.scmi_link.specs.declared.served.Served.TheVariants as served
 use Rattle.scmi_ends.specs.ControllerView.{ControllerView, callee_of}
 
--- one `take` gave this frame, which is then in the history as a command of agent a, and answered as the history says
-pub record Executes (board : Board) (a : ℕ) (h : List Event) (old : CalleeView) (h' : List Event) (new : CalleeView) : Type 0 where
+-- one `take` gave this frame, which is then in the history as a command of agent a, and answered as
+-- the history says
+pub record Executes (board : Board) (a : ℕ) (h : List Event) (old : CalleeView) (h' : List Event)
+    (new : CalleeView) : Type 0 where
   pub frame : Frame
   pub unclosed : callee_knows_close old ≡ false
   pub event : h' ≡ h ++ Command a frame ∷ []
-  pub end : new ≡ record old { taken = old.taken ++ frame ∷ []; answered = old.answered ++ answer_to board a frame h ∷ []; takes = one_more old.takes }
+  pub end : new ≡ record old {
+    taken = old.taken ++ frame ∷ [];
+    answered = old.answered ++ answer_to board a frame h ∷ [];
+    takes = one_more old.takes;
+  }
 
 -- one `take` at the endpoint of an agent's A2P channel; if it gave nothing, the history stays
-abbrev pub ServesOne : Board → ℕ → List Event → CalleeView → Served → List Event → CalleeView → Type 0
+abbrev pub ServesOne : Board → ℕ → List Event → CalleeView → Served → List Event
+    → CalleeView → Type 0
 ServesOne board a h old served.Nothing h' new = (h' ≡ h) × TakesNone old new
 ServesOne board a h old served.Done h' new = Executes board a h old h' new
 
 -- the same at the place of agent a, and nothing else changes but the room
-pub record Serves (a : ℕ) (old : ControllerView) (result : Served) (new : ControllerView) : Type 0 where
+pub record Serves (a : ℕ) (old : ControllerView) (result : Served)
+    (new : ControllerView) : Type 0 where
   pub callee : CalleeView
   pub step : ServesOne old.board a old.history (callee_of old a) result new.history callee
-  pub same : new ≡ record old { history = new.history; room = new.room; callees = slice_set old.callees (a - 1) callee }
+  pub same : new ≡ record old {
+    history = new.history;
+    room = new.room;
+    callees = slice_set old.callees (a - 1) callee;
+  }

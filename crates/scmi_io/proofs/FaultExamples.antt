@@ -6,11 +6,13 @@ use Rattle.scmi_io.specs.declared.fault_words.TheConstants.{AREA, BOARD, LIMIT, 
 
 -- the texts without a number
 words : MODE.now ∷ SIZE.now ∷ READ.now ∷ AREA.now ∷ LIMIT.now ∷ MEMORY.now ∷ WRITE.now ∷ []
-    ≡ codes "mode" ∷ codes "size" ∷ codes "read" ∷ codes "area" ∷ codes "limit" ∷ codes "memory" ∷ codes "write" ∷ []
+    ≡ codes "mode" ∷ codes "size" ∷ codes "read" ∷ codes "area" ∷ codes "limit" ∷ codes "memory"
+    ∷ codes "write" ∷ []
 words = refl
 
 -- those that a number follows
-numbered : BOARD.now ∷ SCRIPT.now ∷ RECORD.now ∷ PLAN.now ∷ [] ≡ codes "board " ∷ codes "script " ∷ codes "record " ∷ codes "plan " ∷ []
+numbered : BOARD.now ∷ SCRIPT.now ∷ RECORD.now ∷ PLAN.now ∷ []
+    ≡ codes "board " ∷ codes "script " ∷ codes "record " ∷ codes "plan " ∷ []
 numbered = refl
 
 memory : fault_line MEMORY.now ≡ codes "fault memory\n"

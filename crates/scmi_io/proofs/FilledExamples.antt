@@ -4,7 +4,8 @@ use Rattle.std.specs.Prelude.{codes}
 use Rattle.scmi_io.specs.Filled.{filled}
 
 -- each hole has its piece
-each_hole : filled (codes "command %, token %\n") (codes "BASE" ∷ codes "7" ∷ []) ≡ codes "command BASE, token 7\n"
+each_hole : filled (codes "command %, token %\n") (codes "BASE" ∷ codes "7" ∷ [])
+    ≡ codes "command BASE, token 7\n"
 unfolding filled
 each_hole = refl
 

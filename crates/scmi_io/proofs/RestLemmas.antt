@@ -4,8 +4,10 @@ use Rattle.std.proofs.lemmas.List.{length-append, length-take-le, append-nil}
 use Rattle.std.specs.Io.KnownBytes.{Consumes, IsAtEnd}
 
 -- what was read is all, once a read gives nothing
-pub all_at_end : (known mid new : Option (List ℕ)) (all buffer : List ℕ) (n : ℕ) → n ≡ 0 → 0 < length buffer → Consumes known mid all
-    → Consumes mid new (take n buffer) × (n ≡ 0 → 0 < length buffer → IsAtEnd new) → IfSome known (λ xs. all ≡ xs)
+pub all_at_end : (known mid new : Option (List ℕ)) (all buffer : List ℕ) (n : ℕ) → n ≡ 0
+    → 0 < length buffer → Consumes known mid all
+    → Consumes mid new (take n buffer) × (n ≡ 0 → 0 < length buffer → IsAtEnd new)
+    → IfSome known (λ xs. all ≡ xs)
 all_at_end None mid new all buffer n zero room before last = tt
 all_at_end (Some xs) None new all buffer n zero room before last = absurd before
 all_at_end (Some xs) (Some ys) None all buffer n zero room before last = absurd last.0
@@ -16,8 +18,10 @@ all_at_end (Some xs) (Some ys) (Some zs) all buffer n zero room before last =
     sym (before ∙ (ap (λ (bs : List ℕ). all ++ bs) ys_is ∙ append-nil all))
 
 -- there is more than a limit, once that much was read
-pub past_limit : (limit : ℕ) (known mid new : Option (List ℕ)) (all buffer : List ℕ) (n : ℕ) → limit < length all + n → n ≤ length buffer → Consumes known mid all
-    → Consumes mid new (take n buffer) × (n ≡ 0 → 0 < length buffer → IsAtEnd new) → IfSome known (λ xs. limit < length xs)
+pub past_limit : (limit : ℕ) (known mid new : Option (List ℕ)) (all buffer : List ℕ) (n : ℕ)
+    → limit < length all + n → n ≤ length buffer → Consumes known mid all
+    → Consumes mid new (take n buffer) × (n ≡ 0 → 0 < length buffer → IsAtEnd new)
+    → IfSome known (λ xs. limit < length xs)
 past_limit limit None mid new all buffer n past fits before last = tt
 past_limit limit (Some xs) None new all buffer n past fits before last = absurd before
 past_limit limit (Some xs) (Some ys) None all buffer n past fits before last = absurd last.0

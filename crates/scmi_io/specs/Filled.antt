@@ -10,4 +10,5 @@ is_hole byte = byte == HOLE
 -- a text whose holes these pieces fill in turn, closed so that no proof goes through its bytes
 unfoldable pub filled : List ℕ → List (List ℕ) → List ℕ
 filled text [] = text
-filled text (piece ∷ pieces) = before_first is_hole text ++ piece ++ filled (after_first is_hole text) pieces
+filled text (piece ∷ pieces) =
+    before_first is_hole text ++ piece ++ filled (after_first is_hole text) pieces

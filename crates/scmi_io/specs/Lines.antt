@@ -18,7 +18,9 @@ after_line input = after_first is_line_feed input
 abbrev pub has_line_feed : List ℕ → Bool
 has_line_feed input = nat_lt (position_or_len is_line_feed input) (length input)
 
--- bytes of the first line of an input were moved behind those of a line: what is to come of the line is the first line of the rest
+-- bytes of the first line of an input were moved behind those of a line: what is to come of the
+-- line is the first line of the rest
 abbrev pub IsFurther : List ℕ → List ℕ → List ℕ → List ℕ → Type 0
 IsFurther input line rest line' =
-    (line ++ first_line input ≡ line' ++ first_line rest) × (after_line input ≡ after_line rest) × (has_line_feed input ≡ has_line_feed rest)
+    (line ++ first_line input ≡ line' ++ first_line rest) × (after_line input ≡ after_line rest)
+    × (has_line_feed input ≡ has_line_feed rest)

@@ -31,7 +31,8 @@ use Rattle.scmi_judge.proofs.Executing.{none-executed, none-failed}
 use Rattle.scmi_judge.proofs.Guessing.{decide}
 
 -- what is at a place stays there once others follow
-pub get-front : {X : Type 0} (xs ys : List X) (k : ℕ) (x : X) → slice_get xs k ≡ Some x → slice_get (xs ++ ys) k ≡ Some x
+pub get-front : {X : Type 0} (xs ys : List X) (k : ℕ) (x : X) → slice_get xs k ≡ Some x
+    → slice_get (xs ++ ys) k ≡ Some x
 get-front [] ys k x is = absurd (let no : None ≡ Some x = is in cc)
 get-front (y ∷ xs) ys zero x is = is
 get-front (y ∷ xs) ys (suc k) x is = get-front xs ys k x is
@@ -40,10 +41,12 @@ get-front (y ∷ xs) ys (suc k) x is = get-front xs ys k x is
 pub among-grown : (may : Unseen) (board : Board) (entries : List Entry) (h : List Move)
     (guesses added : List Guess) → IsAmong may board entries h guesses
     → IsAmong may board entries h (guesses ++ added)
-among-grown may board entries h guesses added is = (is.0, is.1, get-front guesses added is.0 is.1 is.2, is.3)
+among-grown may board entries h guesses added is =
+    (is.0, is.1, get-front guesses added is.0 is.1 is.2, is.3)
 
 -- what is at a place of two lists is at one of the first or of the second
-pub get-either : {X : Type 0} (xs ys : List X) (k : ℕ) (x : X) → slice_get (xs ++ ys) k ≡ Some x → (slice_get xs k ≡ Some x) ⊎ ((j : ℕ) × (slice_get ys j ≡ Some x))
+pub get-either : {X : Type 0} (xs ys : List X) (k : ℕ) (x : X) → slice_get (xs ++ ys) k ≡ Some x
+    → (slice_get xs k ≡ Some x) ⊎ ((j : ℕ) × (slice_get ys j ≡ Some x))
 get-either [] ys k x is = inr (k, is)
 get-either (y ∷ xs) ys zero x is = inl is
 get-either (y ∷ xs) ys (suc k) x is = get-either xs ys k x is
@@ -63,32 +66,44 @@ among-none may board entries h is = absurd (let no : None ≡ Some is.1 = is.2 i
 pub among-last : (may : Unseen) (board : Board) (entries : List Entry) (h : List Move)
     (guesses : List Guess) (g : Guess) → IsGuess may board g entries h
     → IsAmong may board entries h (guesses ++ g ∷ [])
-among-last may board entries h guesses g is = ((get-last guesses g).0, g, (get-last guesses g).1, is)
+among-last may board entries h guesses g is =
+    ((get-last guesses g).0, g, (get-last guesses g).1, is)
 
 pub among-either : (may : Unseen) (board : Board) (entries : List Entry) (h : List Move)
     (guesses : List Guess) (g : Guess) → IsAmong may board entries h (guesses ++ g ∷ [])
     → IsAmong may board entries h guesses ⊎ IsGuess may board g entries h
-among-either may board entries h guesses g is = by (get-either guesses (g ∷ []) is.0 is.1 is.2) where
-  by : (slice_get guesses is.0 ≡ Some is.1) ⊎ ((j : ℕ) × (slice_get (g ∷ []) j ≡ Some is.1)) → IsAmong may board entries h guesses ⊎ IsGuess may board g entries h
-  by (inl before) = inl (is.0, is.1, before, is.3)
-  by (inr last) = inr (subst (λ x. IsGuess may board x entries h) (sym (get-one g last.0 is.1 last.1)) is.3)
+among-either may board entries h guesses g is =
+    by (get-either guesses (g ∷ []) is.0 is.1 is.2) where
+      by : (slice_get guesses is.0 ≡ Some is.1) ⊎ ((j : ℕ) × (slice_get (g ∷ []) j ≡ Some is.1))
+          → IsAmong may board entries h guesses ⊎ IsGuess may board g entries h
+      by (inl before) = inl (is.0, is.1, before, is.3)
+      by (inr last) =
+          inr (subst (λ x. IsGuess may board x entries h) (sym (get-one g last.0 is.1 last.1)) is.3)
 
 pub among-more : (may : Unseen) (board : Board) (entries : List Entry) (h : List Move) (g : Guess)
     (guesses new : List Guess) → HaveGrown may g guesses new → IsAmong may board entries h guesses
     → IsAmong may board entries h new
-among-more may board entries h g guesses new grown is = subst (IsAmong may board entries h) (sym grown.are) (among-grown may board entries h guesses grown.added is)
+among-more may board entries h g guesses new grown is = subst (IsAmong may board entries h)
+    (sym grown.are) (among-grown may board entries h guesses grown.added is)
 
 -- guesses that grew twice
-pub grown-again : (may : Unseen) (g : Guess) (guesses more new : List Guess) → HaveGrown may g guesses more → HaveGrown may g more new → HaveGrown may g guesses new
+pub grown-again : (may : Unseen) (g : Guess) (guesses more new : List Guess)
+    → HaveGrown may g guesses more → HaveGrown may g more new → HaveGrown may g guesses new
 grown-again may g guesses more new first second =
     record {
       added = first.added ++ second.added;
-      are = second.are ∙ ap (λ gs. gs ++ second.added) first.are ∙ append_assoc guesses first.added second.added;
-      real = λ board entries real. All-append (IsReal may board entries) first.added second.added (first.real board entries real) (second.real board entries real);
+      are = second.are ∙ ap (λ gs. gs ++ second.added) first.are
+          ∙ append_assoc guesses first.added second.added;
+      real = λ board entries real. All-append (IsReal may board entries) first.added second.added
+          (first.real board entries real) (second.real board entries real);
     }
 
 pub grown-none : (may : Unseen) (g : Guess) (guesses : List Guess) → HaveGrown may g guesses guesses
-grown-none may g guesses = record { added = []; are = sym (append-nil guesses); real = λ board entries real. All-nil (IsReal may board entries) }
+grown-none may g guesses = record {
+  added = [];
+  are = sym (append-nil guesses);
+  real = λ board entries real. All-nil (IsReal may board entries);
+}
 
 -- a guess that another moves on to is as real
 pub moved-real : (may : Unseen) (g new : Guess) (step : Step) → GoesOn may g step new
@@ -125,14 +140,17 @@ pub among-split : (may : Unseen) (board : Board) (entries : List Entry) (h : Lis
     (xs ys : List Guess) → IsAmong may board entries h (xs ++ ys)
     → IsAmong may board entries h xs ⊎ IsAmong may board entries h ys
 among-split may board entries h xs ys is = by (get-either xs ys is.0 is.1 is.2) where
-  by : (slice_get xs is.0 ≡ Some is.1) ⊎ ((j : ℕ) × (slice_get ys j ≡ Some is.1)) → IsAmong may board entries h xs ⊎ IsAmong may board entries h ys
+  by : (slice_get xs is.0 ≡ Some is.1) ⊎ ((j : ℕ) × (slice_get ys j ≡ Some is.1))
+      → IsAmong may board entries h xs ⊎ IsAmong may board entries h ys
   by (inl before) = inl (is.0, is.1, before, is.3)
   by (inr last) = inr (last.0, is.1, last.1, is.3)
 
 pub among-back : (may : Unseen) (board : Board) (entries : List Entry) (h : List Move)
     (xs ys : List Guess) → IsAmong may board entries h ys
     → IsAmong may board entries h (xs ++ ys)
-among-back may board entries h xs ys is = let there = in-back is.1 xs ys (is.0, is.2) in (there.0, is.1, there.1, is.3)
+among-back may board entries h xs ys is =
+    let there = in-back is.1 xs ys (is.0, is.2) in
+    (there.0, is.1, there.1, is.3)
 
 -- and there once more are left
 pub tried-later : (may : Unseen) (g of : Guess) (step : Step) (all left new : List Guess)
@@ -287,17 +305,21 @@ acts-tried may g guesses each act.Execute = each 2 act.Execute refl
 acts-tried may g guesses each act.Fail = each 3 act.Fail refl
 
 -- one more guess was tried: the last of those that were not
-module _ (may : Unseen) (all untried rest new : List Guess) (g : Guess) (are : untried ≡ rest ++ g ∷ []) (grown : HaveGrown may g rest new) where
+module _ (may : Unseen) (all untried rest new : List Guess) (g : Guess)
+    (are : untried ≡ rest ++ g ∷ []) (grown : HaveGrown may g rest new) where
   moved : (board : Board) (entries : List Entry) (h : List Move)
       → IsAmong may board entries h all ⊎ IsAmong may board entries h untried
       → IsAmong may board entries h (all ++ g ∷ []) ⊎ IsAmong may board entries h new
   moved board entries h (inl is) = inl (among-grown may board entries h all (g ∷ []) is)
-  moved board entries h (inr is) = by (among-either may board entries h rest g (subst (IsAmong may board entries h) are is)) where
-    by : IsAmong may board entries h rest ⊎ IsGuess may board g entries h → IsAmong may board entries h (all ++ g ∷ []) ⊎ IsAmong may board entries h new
-    by (inl before) = inr (among-more may board entries h g rest new grown before)
-    by (inr last) = inl (among-last may board entries h all g last)
+  moved board entries h (inr is) = by
+      (among-either may board entries h rest g (subst (IsAmong may board entries h) are is)) where
+        by : IsAmong may board entries h rest ⊎ IsGuess may board g entries h
+            → IsAmong may board entries h (all ++ g ∷ []) ⊎ IsAmong may board entries h new
+        by (inl before) = inr (among-more may board entries h g rest new grown before)
+        by (inr last) = inl (among-last may board entries h all g last)
 
-  pub kept-moved : (guesses : List Guess) → IsKept may guesses all untried → IsKept may guesses (all ++ g ∷ []) new
+  pub kept-moved : (guesses : List Guess) → IsKept may guesses all untried
+      → IsKept may guesses (all ++ g ∷ []) new
   kept-moved guesses kept board entries h is = moved board entries h (kept board entries h is)
 
   pub tried-moved : IsTriedWhole may g ((all ++ g ∷ []) ++ new) → AreTried may all untried
@@ -312,17 +334,21 @@ module _ (may : Unseen) (all untried rest new : List Guess) (g : Guess) (are : u
             among-split may board entries (move ∷ h) (all ++ g ∷ []) new
             (whole board entries h move last can)
 
-  pub real-moved : (board : Board) (entries : List Entry) → All (IsReal may board entries) all × All (IsReal may board entries) untried
+  pub real-moved : (board : Board) (entries : List Entry)
+      → All (IsReal may board entries) all × All (IsReal may board entries) untried
       → All (IsReal may board entries) (all ++ g ∷ []) × All (IsReal may board entries) new
   real-moved board entries real =
       let both = All-pop (IsReal may board entries) untried rest (Some g) are real.1 in (
         All-push (IsReal may board entries) all g real.0 both.1,
         subst (All (IsReal may board entries)) (sym grown.are)
-            (All-append (IsReal may board entries) rest grown.added both.0 (grown.real board entries both.1)),
+            (All-append (IsReal may board entries) rest grown.added both.0
+            (grown.real board entries both.1)),
       )
 
-pub all-kept : (may : Unseen) (guesses all untried : List Guess) → untried ≡ [] → IsKept may guesses all untried
-    → ((board : Board) (entries : List Entry) → All (IsReal may board entries) guesses → All (IsReal may board entries) all × All (IsReal may board entries) untried)
+pub all-kept : (may : Unseen) (guesses all untried : List Guess) → untried ≡ []
+    → IsKept may guesses all untried
+    → ((board : Board) (entries : List Entry) → All (IsReal may board entries) guesses
+    → All (IsReal may board entries) all × All (IsReal may board entries) untried)
     → HaveKept may guesses all
 all-kept may guesses all untried none kept real =
     record {
@@ -333,7 +359,8 @@ all-kept may guesses all untried none kept real =
           → IsAmong may board entries h all ⊎ IsAmong may board entries h untried
           → IsAmong may board entries h all
       by board entries h (inl here) = here
-      by board entries h (inr there) = absurd (among-none may board entries h (subst (IsAmong may board entries h) none there))
+      by board entries h (inr there) =
+          absurd (among-none may board entries h (subst (IsAmong may board entries h) none there))
 
 -- the moves before the last of a legal history are legal, and the last may come there
 pub legal-before : (board : Board) (h : List Move) (move : Move)
@@ -351,8 +378,10 @@ legal-move board h (Move.executes k e x) legal = IsLegal-last board (history h) 
 legal-move board h (Move.frees k) legal = tt
 
 -- and so are those before an entry
-pub legal-front : (may : Unseen) (board : Board) (entries : List Entry) (h after : List Move) (entry : Entry)
-    → Fits may board entries h entry after → IsLegal board (history after) → IsLegal board (history h)
+pub legal-front : (may : Unseen) (board : Board) (entries : List Entry) (h after : List Move)
+    (entry : Entry)
+    → Fits may board entries h entry after → IsLegal board (history after)
+    → IsLegal board (history h)
 legal-front may board entries h after (Answered a f x) fits legal =
     legal-before board h (Move.happens fits.0) (subst (λ m. IsLegal board (history m)) fits.1 legal)
 legal-front may board entries h after (Delivered a m) fits legal =
@@ -367,8 +396,10 @@ legal-front may board entries h after (Told report) fits legal =
     legal-before board h (Move.happens (told report))
     (subst (λ m. IsLegal board (history m)) fits legal)
 
--- in a closed set is each legal history behind the entries, if each that ends with the last of them is
-module _ (may : Unseen) (board : Board) (guesses : List Guess) (closed : AreClosed may guesses) where
+-- in a closed set is each legal history behind the entries, if each that ends with the last of them
+-- is
+module _ (may : Unseen) (board : Board) (guesses : List Guess)
+    (closed : AreClosed may guesses) where
   pub behind-among : {entries : List Entry} {h : List Move} → Behind may board entries h
       → IsLegal board (history h)
       → ((k : List Move) → IsLegal board (history k) → EndsShown may board entries k

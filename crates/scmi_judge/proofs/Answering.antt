@@ -29,25 +29,32 @@ some-of None some = absurd (some refl)
 some-of (Some x) some = (x, refl)
 
 -- the effect of a message after a history is that by its agent's situation
-effect-given : (board : Board) (h : List Event) (a : ℕ) (m : Message) (e : Effect) → effect_after board h (Command a (Good m)) ≡ Some e
+effect-given : (board : Board) (h : List Event) (a : ℕ) (m : Message) (e : Effect)
+    → effect_after board h (Command a (Good m)) ≡ Some e
     → effect_in board a (Good m) (situation_after board a (deeds board h)) ≡ Some e
 effect-given board h a m e has = by (fits_channel board a m) has where
   by : (short : Bool)
-      → option_map effect_of (change_of board (success_of a m.header (command_on board m) (if short then reply_words board a (situation_after board a (deeds board h)) (command_on board m) else [])) None) ≡ Some e
-      → (if short then effect_read board a m (situation_after board a (deeds board h)) else None) ≡ Some e
+      → option_map effect_of (change_of board
+      (success_of a m.header (command_on board m) (if short then reply_words board a
+      (situation_after board a (deeds board h)) (command_on board m) else [])) None) ≡ Some e
+      → (if short then effect_read board a m (situation_after board a (deeds board h)) else None)
+      ≡ Some e
   by true has = has
   by false has = has
 
 -- SUCCESS alone, to a message that is to change the hardware
-message-succeeds : (board : Board) (h : List Event) (a : ℕ) (m : Message) (e : Effect) → effect_after board h (Command a (Good m)) ≡ Some e
+message-succeeds : (board : Board) (h : List Event) (a : ℕ) (m : Message) (e : Effect)
+    → effect_after board h (Command a (Good m)) ≡ Some e
     → answer_to board a (Good m) h ≡ Reply (message_with m.header (0 ∷ []))
 message-succeeds board h a m e has =
     let s = situation_after board a (deeds board h) in
     let fit = effect-fits board a m s e (effect-given board h a m e has) in
-    answer-fits board a m s fit.0 ∙ ap (λ words. Reply (message_with m.header words)) (changed-by board a m s e (effect-given board h a m e has)).reply
+    answer-fits board a m s fit.0 ∙ ap (λ words. Reply (message_with m.header words))
+    (changed-by board a m s e (effect-given board h a m e has)).reply
 
 -- a command that is to change the hardware succeeds
-change-succeeds : (board : Board) (h : List Event) (a : ℕ) (f : Frame) → effect_after board h (Command a f) ≢ None → has_succeeded (answer_to board a f h) ≡ true
+change-succeeds : (board : Board) (h : List Event) (a : ℕ) (f : Frame)
+    → effect_after board h (Command a f) ≢ None → has_succeeded (answer_to board a f h) ≡ true
 change-succeeds board h a (Good m) some =
     let one = some-of (effect_after board h (Command a (Good m))) some in
     ap has_succeeded (message-succeeds board h a m one.0 one.1)
@@ -64,13 +71,15 @@ words-show fault.GenericError = refl
 words-show fault.HardwareError = refl
 
 -- and the answer to a command whose change the hardware refused shows with which fault
-pub failure-shows : (board : Board) (h : List Event) (a : ℕ) (f : Frame) (x : Answer) (y : Fault) → effect_after board h (Command a f) ≢ None → x ≡ failed_answer f y
+pub failure-shows : (board : Board) (h : List Event) (a : ℕ) (f : Frame) (x : Answer) (y : Fault)
+    → effect_after board h (Command a f) ≢ None → x ≡ failed_answer f y
     → fault_shown x ≡ Some y
 failure-shows board h a (Good m) x y some is = ap fault_shown is ∙ words-show y
 failure-shows board h a (Malformed len header) x y some is = absurd (some refl)
 
 -- so it is no other
-pub sole-fault : (board : Board) (h : List Event) (a : ℕ) (f : Frame) (x : Answer) (y other : Fault) → effect_after board h (Command a f) ≢ None → fault_shown x ≡ Some y
+pub sole-fault : (board : Board) (h : List Event) (a : ℕ) (f : Frame) (x : Answer) (y other : Fault)
+    → effect_after board h (Command a f) ≢ None → fault_shown x ≡ Some y
     → x ≡ failed_answer f other → other ≡ y
 sole-fault board h a f x y other some shows is =
     ap (λ o. unwrap_or o other) (sym (failure-shows board h a f x other some is) ∙ shows)
@@ -91,7 +100,8 @@ fault-fails Released y shows = refl
 fault-fails ChannelError y shows = refl
 
 -- an answer that shows a fault is not the one to a command that changed the hardware
-pub failed-not-done : (board : Board) (h : List Event) (a : ℕ) (f : Frame) (x : Answer) (y : Fault) → effect_after board h (Command a f) ≢ None → fault_shown x ≡ Some y
+pub failed-not-done : (board : Board) (h : List Event) (a : ℕ) (f : Frame) (x : Answer) (y : Fault)
+    → effect_after board h (Command a f) ≢ None → fault_shown x ≡ Some y
     → x ≢ answer_to board a f h
 failed-not-done board h a f x y some shows is =
     let done = change-succeeds board h a f some in

@@ -10,25 +10,37 @@ use Rattle.scmi_judge.specs.declared.guess.Guess.{Guess}
 use Rattle.scmi_judge.specs.declared.guesses.Guesses.{Guesses}
 use Rattle.scmi_judge.specs.declared.window.Window.{Window}
 
-pub of-popped : (board : Board) (xs ys : List Guess) (g : Guess) → xs ≡ ys ++ g ∷ [] → IsOfBoard board xs → IsOfBoard board ys × (g.platform.board ≡ board)
-of-popped board xs ys g are of = All-pop (λ (x : Guess). x.platform.board ≡ board) xs ys (Some g) are of
+pub of-popped : (board : Board) (xs ys : List Guess) (g : Guess) → xs ≡ ys ++ g ∷ []
+    → IsOfBoard board xs → IsOfBoard board ys × (g.platform.board ≡ board)
+of-popped board xs ys g are of =
+    All-pop (λ (x : Guess). x.platform.board ≡ board) xs ys (Some g) are of
 
-pub of-pushed : (board : Board) (xs ys : List Guess) (g : Guess) (did : Bool) → ys ≡ (if did then xs ++ g ∷ [] else xs) → IsOfBoard board xs → g.platform.board ≡ board → IsOfBoard board ys
-of-pushed board xs ys g true are of is = subst (IsOfBoard board) (sym are) (All-push (λ (x : Guess). x.platform.board ≡ board) xs g of is)
+pub of-pushed : (board : Board) (xs ys : List Guess) (g : Guess) (did : Bool) → ys ≡ (if did
+    then xs ++ g ∷ [] else xs) → IsOfBoard board xs → g.platform.board ≡ board → IsOfBoard board ys
+of-pushed board xs ys g true are of is = subst (IsOfBoard board) (sym are)
+    (All-push (λ (x : Guess). x.platform.board ≡ board) xs g of is)
 of-pushed board xs ys g false are of is = subst (IsOfBoard board) (sym are) of
 
-pub of-one : (board : Board) (xs : List Guess) (i : ℕ) (g : Guess) → g ≡ get_or xs i g → i < length xs → IsOfBoard board xs → g.platform.board ≡ board
-of-one board xs i g is less of = ap (λ (x : Guess). x.platform.board) is ∙ All-get_or (λ (x : Guess). x.platform.board ≡ board) xs i g less of
+pub of-one : (board : Board) (xs : List Guess) (i : ℕ) (g : Guess) → g ≡ get_or xs i g
+    → i < length xs → IsOfBoard board xs → g.platform.board ≡ board
+of-one board xs i g is less of = ap (λ (x : Guess). x.platform.board) is
+    ∙ All-get_or (λ (x : Guess). x.platform.board ≡ board) xs i g less of
 
 pub keep-again : (a b c : Guesses) → KeepBoard a b → KeepBoard b c → KeepBoard a c
-keep-again a b c first second = record { boards = λ board of. second.boards board (first.boards board of); unseen = second.unseen ∙ first.unseen }
+keep-again a b c first second = record {
+  boards = λ board of. second.boards board
+      (first.boards board of);
+  unseen = second.unseen ∙ first.unseen;
+}
 
 -- of whatever board all are, a guess of their board is
-pub of-their : (old : Guesses) (g : Guess) → (board : Board) × AreOfBoard board old × (g.platform.board ≡ board) → (board : Board) → AreOfBoard board old → g.platform.board ≡ board
+pub of-their : (old : Guesses) (g : Guess) → (board : Board) × AreOfBoard board old
+    × (g.platform.board ≡ board) → (board : Board) → AreOfBoard board old → g.platform.board ≡ board
 of-their old g one board of = one.2 ∙ sym one.1.made ∙ of.made
 
 -- what is made from a guess of their board is of it
-pub keep-made : (old new : Guesses) (g copy made : Guess) → (board : Board) × AreOfBoard board old × (g.platform.board ≡ board) → copy ≡ g → made.platform.board ≡ copy.platform.board
+pub keep-made : (old new : Guesses) (g copy made : Guess) → (board : Board) × AreOfBoard board old
+    × (g.platform.board ≡ board) → copy ≡ g → made.platform.board ≡ copy.platform.board
     → KeepBoard (record old { made = made }) new → KeepBoard old new
 keep-made old new g copy made one same is keeps =
     record {

@@ -42,8 +42,10 @@ guess-legal may board g entries moves guess =
     subst (λ b. IsLegal b (history moves)) guess.of_board guess.stands.legal
 
 -- and so is that of what it moves on to
-pub moved-legal : (board : Board) (p new : Standing) (e : Event) (h : List Event) → p.board ≡ board → new.board ≡ p.board → MovesOn p e new → StandsAfter p h → IsLegal board (h ++ e ∷ [])
-moved-legal board p new e h is same moves stands = subst (λ b. IsLegal b (h ++ e ∷ [])) (same ∙ is) (moves h stands).legal
+pub moved-legal : (board : Board) (p new : Standing) (e : Event) (h : List Event) → p.board ≡ board
+    → new.board ≡ p.board → MovesOn p e new → StandsAfter p h → IsLegal board (h ++ e ∷ [])
+moved-legal board p new e h is same moves stands =
+    subst (λ b. IsLegal b (h ++ e ∷ [])) (same ∙ is) (moves h stands).legal
 
 -- a step of one event moves a guess on by that
 pub goes-by-event : (may : Unseen) (g new : Guess) (step : Step) (e : Event)
@@ -71,7 +73,8 @@ pub goes-unsent : (may : Unseen) (g new : Guess) (step : Step) (e : Event)
 goes-unsent may g new step e only unsent unseen goes same posted commands =
     goes-by-event may g new step e only by where
       by : (board : Board) (entries : List Entry) (moves : List Move)
-          → IsGuess may board g entries moves → IsGuess may board new entries (Move.happens e ∷ moves)
+          → IsGuess may board g entries moves
+          → IsGuess may board new entries (Move.happens e ∷ moves)
       by board entries moves guess =
           record {
             of_board = same ∙ guess.of_board;
@@ -81,7 +84,8 @@ goes-unsent may g new step e only unsent unseen goes same posted commands =
                 (unseen (history moves) entries guess.stands));
             stands = goes (history moves) guess.stands;
             channels = λ a agent.
-                delivered_kept board a (history moves) e (guess-legal may board g entries moves guess)
+                delivered_kept board a (history moves) e
+                (guess-legal may board g entries moves guess)
                 (unsent a) ∙ guess.channels a agent
                 ∙ ap (λ ps. taken_by a entries ++ option_to_list (get_or ps (a - 1) None))
                 (sym posted);
@@ -90,8 +94,10 @@ goes-unsent may g new step e only unsent unseen goes same posted commands =
           }
 
 -- what is in a channel
-channel-of : (taken given : List Message) (posted : Option Message) → given ≡ taken ++ option_to_list posted → posted ≡ None → given ≡ taken
-channel-of taken given posted is none = is ∙ ap (λ p. taken ++ option_to_list p) none ∙ append-nil taken
+channel-of : (taken given : List Message) (posted : Option Message)
+    → given ≡ taken ++ option_to_list posted → posted ≡ None → given ≡ taken
+channel-of taken given posted is none = is ∙ ap (λ p. taken ++ option_to_list p) none
+    ∙ append-nil taken
 
 -- two agents have two places
 other-place : (a b : ℕ) → 1 ≤ a → 1 ≤ b → b ≢ a → b - 1 ≢ a - 1
@@ -104,8 +110,10 @@ decide b a = by (b == a) refl where
   by false is = inr (eqb-false b a is)
 
 -- a posting moves a guess on
-pub goes-by-posting : (may : Unseen) (g new : Guess) (a : ℕ) (m : Message) → IsAgent (length g.platform.board.agents) a → a - 1 < length g.posted → posted_to g a ≡ None
-    → ((h : List Event) → StandsAfter g.platform h → slice_get (outbox g.platform.board a h) 0 ≡ Some m)
+pub goes-by-posting : (may : Unseen) (g new : Guess) (a : ℕ) (m : Message)
+    → IsAgent (length g.platform.board.agents) a → a - 1 < length g.posted → posted_to g a ≡ None
+    → ((h : List Event) → StandsAfter g.platform h
+    → slice_get (outbox g.platform.board a h) 0 ≡ Some m)
     → MovesOn g.platform (Sent a) new.platform → new.platform.board ≡ g.platform.board
     → new.posted ≡ set g.posted (a - 1) (Some m)
     → new.outstanding ≡ g.outstanding → GoesOn may g (Post a) new
@@ -134,7 +142,8 @@ goes-by-posting may g new a m agent within empty first goes same posted commands
             h = history moves
 
             at : delivered_messages board a h ≡ taken_by a entries
-                → slice_get (outbox board a h) 0 ≡ Some m → (b : ℕ) → IsAgent (length board.agents) b
+                → slice_get (outbox board a h) 0 ≡ Some m → (b : ℕ)
+                → IsAgent (length board.agents) b
                 → (b ≡ a) ⊎ (b ≢ a)
                 → delivered_messages board b (h ++ Sent a ∷ []) ≡ taken_by b entries
                 ++ option_to_list (posted_to new b)
@@ -154,7 +163,9 @@ goes-by-posting may g new a m agent within empty first goes same posted commands
                 (other-place a b agent.0 is.0 other)))
 
 -- an agent that takes what was posted to it
-module _ (may : Unseen) (g new : Guess) (a : ℕ) (m : Message) (agent : IsAgent (length g.platform.board.agents) a) (within : a - 1 < length g.posted) (full : posted_to g a ≡ Some m)
+module _ (may : Unseen) (g new : Guess) (a : ℕ) (m : Message)
+    (agent : IsAgent (length g.platform.board.agents) a) (within : a - 1 < length g.posted)
+    (full : posted_to g a ≡ Some m)
     (same : new.platform ≡ g.platform) (posted : new.posted ≡ set g.posted (a - 1) None)
     (commands : new.outstanding ≡ g.outstanding) where
   taken-at : (board : Board) (entries : List Entry) (moves : List Move)
@@ -167,17 +178,22 @@ module _ (may : Unseen) (g new : Guess) (a : ℕ) (m : Message) (agent : IsAgent
       subst (λ x. delivered_messages board x (history moves)
       ≡ (taken_by x entries ++ option_to_list (if x == a then Some m else None))
       ++ option_to_list (posted_to new x)) (sym own)
-      (guess.channels a (subst (λ b. IsAgent (length b.agents) a) guess.of_board agent) ∙ ap (λ p. taken_by a entries ++ option_to_list p) full
-      ∙ sym (ap (λ p. (taken_by a entries ++ option_to_list (if a == a then Some m else None)) ++ option_to_list p)
+      (guess.channels a (subst (λ b. IsAgent (length b.agents) a) guess.of_board agent)
+      ∙ ap (λ p. taken_by a entries ++ option_to_list p) full
+      ∙ sym (ap (λ p. (taken_by a entries ++ option_to_list (if a == a then Some m else None))
+      ++ option_to_list p)
       (ap (λ ps. get_or ps (a - 1) None) posted ∙ get_or-set_same g.posted (a - 1) None None within)
       ∙ append-nil (taken_by a entries ++ option_to_list (if a == a then Some m else None))
-      ∙ ap (λ c. taken_by a entries ++ option_to_list (if c then Some m else None)) (eq-eqb a a refl)))
+      ∙ ap (λ c. taken_by a entries ++ option_to_list (if c then Some m else None))
+      (eq-eqb a a refl)))
   taken-at board entries moves guess b is (inr other) =
       guess.channels b is
       ∙ ap (λ p. taken_by b entries ++ option_to_list p)
-      (sym (ap (λ ps. get_or ps (b - 1) None) posted ∙ get_or-set_other g.posted (a - 1) (b - 1) None None (other-place a b agent.0 is.0 other)))
+      (sym (ap (λ ps. get_or ps (b - 1) None) posted ∙ get_or-set_other g.posted (a - 1)
+      (b - 1) None None (other-place a b agent.0 is.0 other)))
       ∙ ap (λ ms. ms ++ option_to_list (posted_to new b))
-      (sym (ap (λ c. taken_by b entries ++ option_to_list (if c then Some m else None)) (ne_eqb b a other) ∙ append-nil (taken_by b entries)))
+      (sym (ap (λ c. taken_by b entries ++ option_to_list (if c then Some m else None))
+      (ne_eqb b a other) ∙ append-nil (taken_by b entries)))
 
   taken-each : (board : Board) (entries : List Entry) (moves after : List Move)
       → IsGuess may board g entries moves → CanShow may board entries moves (Delivered a m) after
@@ -208,7 +224,8 @@ module _ (may : Unseen) (g new : Guess) (a : ℕ) (m : Message) (agent : IsAgent
             fits = (
               subst (λ b. IsAgent (length b.agents) a) guess.of_board agent,
               refl,
-              guess.channels a (subst (λ b. IsAgent (length b.agents) a) guess.of_board agent) ∙ ap (λ p. taken_by a entries ++ option_to_list p) full,
+              guess.channels a (subst (λ b. IsAgent (length b.agents) a) guess.of_board agent)
+                  ∙ ap (λ p. taken_by a entries ++ option_to_list p) full,
             );
             legal = guess-legal may board g entries moves guess;
           },
@@ -247,10 +264,13 @@ module _ (may : Unseen) (g new : Guess) (entry : Entry) (e : Event) where
       }
 
 -- which event it was: the answer shows it
-pub gives-done : (may : Unseen) (g new : Guess) (a : ℕ) (f : Frame) (x : Answer) → MovesOn g.platform (Command a f) new.platform → new.platform.board ≡ g.platform.board → new.posted ≡ g.posted
+pub gives-done : (may : Unseen) (g new : Guess) (a : ℕ) (f : Frame) (x : Answer)
+    → MovesOn g.platform (Command a f) new.platform → new.platform.board ≡ g.platform.board
+    → new.posted ≡ g.posted
     → new.outstanding ≡ g.outstanding
     → ((h : List Event) → StandsAfter g.platform h → x ≡ answer_to g.platform.board a f h)
-    → ((h : List Event) → StandsAfter g.platform h → effect_after g.platform.board h (Command a f) ≢ None
+    → ((h : List Event) → StandsAfter g.platform h
+    → effect_after g.platform.board h (Command a f) ≢ None
     → (fault : Fault) → MayFail may (CommandFailed a f fault) → x ≢ failed_answer f fault)
     → Gives may g (Answered a f x) new
 gives-done may g new a f x goes same posted commands due only =
@@ -274,7 +294,8 @@ gives-done may g new a f x goes same posted commands due only =
         },
       );
       each =
-          λ board entries moves after guess can. by board entries moves after guess can.legal can.fits can.fits.2;
+          λ board entries moves after guess can.
+          by board entries moves after guess can.legal can.fits can.fits.2;
     } where
       by : (board : Board) (entries : List Entry) (moves after : List Move)
           → IsGuess may board g entries moves → IsLegal board (history after)
@@ -293,10 +314,14 @@ gives-done may g new a f x goes same posted commands due only =
           (subst (λ ms. IsLegal board (history ms)) are legal)).1) failed.0
           (subst (MayFail may) failed.1 fits.3) failed.2)
 
-pub gives-failed : (may : Unseen) (g new : Guess) (a : ℕ) (f : Frame) (x : Answer) (fault : Fault) → MovesOn g.platform (CommandFailed a f fault) new.platform → new.platform.board ≡ g.platform.board
+pub gives-failed : (may : Unseen) (g new : Guess) (a : ℕ) (f : Frame) (x : Answer) (fault : Fault)
+    → MovesOn g.platform (CommandFailed a f fault) new.platform
+    → new.platform.board ≡ g.platform.board
     → new.posted ≡ g.posted → new.outstanding ≡ g.outstanding
-    → MayFail may (CommandFailed a f fault) → x ≡ failed_answer f fault → ((h : List Event) → StandsAfter g.platform h → x ≢ answer_to g.platform.board a f h)
-    → ((h : List Event) → StandsAfter g.platform h → (other : Fault) → x ≡ failed_answer f other → other ≡ fault)
+    → MayFail may (CommandFailed a f fault) → x ≡ failed_answer f fault
+    → ((h : List Event) → StandsAfter g.platform h → x ≢ answer_to g.platform.board a f h)
+    → ((h : List Event) → StandsAfter g.platform h → (other : Fault) → x ≡ failed_answer f other
+    → other ≡ fault)
     → Gives may g (Answered a f x) new
 gives-failed may g new a f x fault goes same posted commands allowed due only sole =
     record {
@@ -310,7 +335,8 @@ gives-failed may g new a f x fault goes same posted commands allowed due only so
         },
       );
       each =
-          λ board entries moves after guess can. by board entries moves after guess can.fits can.fits.2;
+          λ board entries moves after guess can.
+          by board entries moves after guess can.fits can.fits.2;
     } where
       by : (board : Board) (entries : List Entry) (moves after : List Move)
           → IsGuess may board g entries moves
@@ -327,8 +353,10 @@ gives-failed may g new a f x fault goes same posted commands allowed due only so
           absurd (only (history moves) guess.stands
           (subst (λ b. x ≡ answer_to b a f (history moves)) (sym guess.of_board) done.1))
 
-pub other-answer : (may : Unseen) (g : Guess) (a : ℕ) (f : Frame) (x : Answer) → ((h : List Event) → StandsAfter g.platform h → x ≢ answer_to g.platform.board a f h)
-    → ((h : List Event) → StandsAfter g.platform h → effect_after g.platform.board h (Command a f) ≢ None
+pub other-answer : (may : Unseen) (g : Guess) (a : ℕ) (f : Frame) (x : Answer)
+    → ((h : List Event) → StandsAfter g.platform h → x ≢ answer_to g.platform.board a f h)
+    → ((h : List Event) → StandsAfter g.platform h
+    → effect_after g.platform.board h (Command a f) ≢ None
     → (fault : Fault) → MayFail may (CommandFailed a f fault) → x ≢ failed_answer f fault)
     → GivesNot may g (Answered a f x)
 other-answer may g a f x undone unfailed board entries moves after guess can =
@@ -389,7 +417,9 @@ none-at X (suc (suc (suc (suc (suc (suc zero)))))) = refl
 none-at X (suc (suc (suc (suc (suc (suc (suc zero))))))) = refl
 none-at X (suc (suc (suc (suc (suc (suc (suc (suc i)))))))) = refl
 
-pub guess-start : (may : Unseen) (board : Board) (g : Guess) → g.platform.board ≡ board → StandsAfter g.platform [] → g.posted ≡ None ∷ None ∷ None ∷ None ∷ None ∷ None ∷ None ∷ None ∷ []
+pub guess-start : (may : Unseen) (board : Board) (g : Guess)
+    → g.platform.board ≡ board → StandsAfter g.platform []
+    → g.posted ≡ None ∷ None ∷ None ∷ None ∷ None ∷ None ∷ None ∷ None ∷ []
     → g.outstanding ≡ None ∷ None ∷ None ∷ None ∷ None ∷ None ∷ None ∷ None ∷ []
     → IsGuess may board g [] []
 unfolding eight_none
@@ -407,6 +437,8 @@ guess-start may board g same stands none free =
     }
 
 -- eight items are the same as eight others if they are at each place
-pub eight-same : {X : Type 0} (xs ys : List (Option X)) (n : ℕ) → length xs ≡ 8 → length ys ≡ 8 → 8 ≤ n
+pub eight-same : {X : Type 0} (xs ys : List (Option X)) (n : ℕ) → length xs ≡ 8
+    → length ys ≡ 8 → 8 ≤ n
     → ((k : ℕ) → k < n → get_or xs k None ≡ get_or ys k None) → xs ≡ ys
-eight-same xs ys n first second all same = ext_get_or None xs ys (first ∙ sym second) (λ k less. same k (omega (arith, less, first, all)))
+eight-same xs ys n first second all same =
+    ext_get_or None xs ys (first ∙ sym second) (λ k less. same k (omega (arith, less, first, all)))

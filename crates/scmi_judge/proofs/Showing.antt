@@ -33,8 +33,10 @@ use Rattle.scmi_judge.proofs.Guessing.{decide, told-unsent}
 
 -- what one more entry shows
 shown-more : {X : Type 0} (shows : Entry → Option X) (entry : Entry) (entries : List Entry)
-    → filter_map shows (reverse (entry ∷ entries)) ≡ filter_map shows (reverse entries) ++ cons_option (shows entry) []
-shown-more shows entry entries = ap (filter_map shows) (reverse-append (entry ∷ []) entries) ∙ filter_map-append shows (reverse entries) (entry ∷ [])
+    → filter_map shows (reverse (entry ∷ entries))
+    ≡ filter_map shows (reverse entries) ++ cons_option (shows entry) []
+shown-more shows entry entries = ap (filter_map shows) (reverse-append (entry ∷ []) entries)
+    ∙ filter_map-append shows (reverse entries) (entry ∷ [])
 
 -- one that shows nothing, as a message that was taken shows no frame, adds none
 nothing-shown : {X : Type 0} (shows : Entry → Option X) (entry : Entry) (entries : List Entry)
@@ -64,15 +66,19 @@ quiet-told (Changed effect) = reported effect
 quiet-told (First place) = promoted place
 quiet-told (reports.Settled clock rate) = settled clock rate
 
-frames-more : (a : ℕ) (h : List Event) (e : Event) → frames_of a (h ++ e ∷ []) ≡ frames_of a h ++ cons_option (frame_from a e) []
+frames-more : (a : ℕ) (h : List Event) (e : Event)
+    → frames_of a (h ++ e ∷ []) ≡ frames_of a h ++ cons_option (frame_from a e) []
 unfolding frames_of
 frames-more a h e = filter_map-append (frame_from a) h (e ∷ [])
 
-answers-more : (board : Board) (a : ℕ) (h : List Event) (e : Event) → answers_to board a (h ++ e ∷ []) ≡ answers_to board a h ++ answer_for board a h e
+answers-more : (board : Board) (a : ℕ) (h : List Event) (e : Event)
+    → answers_to board a (h ++ e ∷ []) ≡ answers_to board a h ++ answer_for board a h e
 unfolding answers_to
-answers-more board a h e = fold_with_prefix-push (λ before so_far event. so_far ++ answer_for board a before event) [] [] h e
+answers-more board a h e = fold_with_prefix-push
+    (λ before so_far event. so_far ++ answer_for board a before event) [] [] h e
 
-one-if : {X : Type 0} (c : Bool) (x : X) → (if c then x ∷ [] else []) ≡ cons_option (if c then Some x else None) []
+one-if : {X : Type 0} (c : Bool) (x : X)
+    → (if c then x ∷ [] else []) ≡ cons_option (if c then Some x else None) []
 one-if true x = refl
 one-if false x = refl
 
@@ -159,7 +165,8 @@ module _ (may : Unseen) (board : Board) where
     more e same is =
         ap (λ ms. frames_of a (history ms)) (fits.1 ∙ ap (λ y. Move.happens y ∷ h) is)
         ∙ frames-more a (history h) e ∙ ap (λ o. frames_of a (history h) ++ cons_option o []) same
-        ∙ ap (λ fs. fs ++ cons_option (frame_shown a (Answered b f x)) []) before ∙ sym (shown-more (frame_shown a) (Answered b f x) entries)
+        ∙ ap (λ fs. fs ++ cons_option (frame_shown a (Answered b f x)) []) before
+        ∙ sym (shown-more (frame_shown a) (Answered b f x) entries)
 
     by : IsAnswered board (history h) b f fits.0 x
         → frames_of a (history after)
@@ -180,13 +187,16 @@ module _ (may : Unseen) (board : Board) where
     more e same is =
         ap (λ ms. answers_to board a (history ms)) (fits.1 ∙ ap (λ y. Move.happens y ∷ h) is)
         ∙ answers-more board a (history h) e ∙ ap (λ xs. answers_to board a (history h) ++ xs) same
-        ∙ ap (λ xs. xs ++ cons_option (answer_shown a (Answered b f x)) []) before ∙ sym (shown-more (answer_shown a) (Answered b f x) entries)
+        ∙ ap (λ xs. xs ++ cons_option (answer_shown a (Answered b f x)) []) before
+        ∙ sym (shown-more (answer_shown a) (Answered b f x) entries)
 
     by : IsAnswered board (history h) b f fits.0 x
         → answers_to board a (history after)
         ≡ filter_map (answer_shown a) (reverse (Answered b f x ∷ entries))
-    by (inl done) = more (Command b f) (ap (λ y. if a == b then y ∷ [] else []) (sym done.1) ∙ one-if (a == b) x) done.0
-    by (inr failed) = more (CommandFailed b f failed.0) (ap (λ y. if a == b then y ∷ [] else []) (sym failed.2) ∙ one-if (a == b) x) failed.1
+    by (inl done) = more (Command b f)
+        (ap (λ y. if a == b then y ∷ [] else []) (sym done.1) ∙ one-if (a == b) x) done.0
+    by (inr failed) = more (CommandFailed b f failed.0)
+        (ap (λ y. if a == b then y ∷ [] else []) (sym failed.2) ∙ one-if (a == b) x) failed.1
 
   pub frames-shown : {entries : List Entry} {h : List Move} → Behind may board entries h
       → All IsAtOnce entries → (a : ℕ)
@@ -254,23 +264,35 @@ module _ (may : Unseen) (board : Board) where
       → message_shown a entry ≡ None
       → HasAtMostOne board entries (history h) a
       → HasAtMostOne board (entry ∷ entries) (history k) a
-  same-posted entries h k entry a kept none one =
-      (one.0, kept ∙ one.1 ∙ ap (λ ms. ms ++ option_to_list one.0) (sym (ap (λ o. taken_by a entries ++ option_to_list o) none ∙ append-nil (taken_by a entries))))
+  same-posted entries h k entry a kept none one = (
+    one.0,
+    kept ∙ one.1 ∙ ap (λ ms. ms ++ option_to_list one.0) (sym (ap
+        (λ o. taken_by a entries ++ option_to_list o) none ∙ append-nil (taken_by a entries))),
+  )
 
   posted-more : (entries : List Entry) (h : List Event) (e : Event) → IsLegal board (h ++ e ∷ [])
       → IsUnseenEvent may board entries h e → (a : ℕ) → HasAtMostOne board entries h a
       → HasAtMostOne board entries (h ++ e ∷ []) a
-  posted-more entries h Advance legal is a one = (one.0, delivered_kept board a h Advance (IsLegal-front board h Advance legal) refl ∙ one.1)
-  posted-more entries h (AdvanceFailed fault) legal is a one = (one.0, delivered_kept board a h (AdvanceFailed fault) (IsLegal-front board h (AdvanceFailed fault) legal) refl ∙ one.1)
+  posted-more entries h Advance legal is a one =
+      (one.0, delivered_kept board a h Advance (IsLegal-front board h Advance legal) refl ∙ one.1)
+  posted-more entries h (AdvanceFailed fault) legal is a one = (
+    one.0,
+    delivered_kept board a h
+        (AdvanceFailed fault) (IsLegal-front board h (AdvanceFailed fault) legal) refl ∙ one.1,
+  )
   posted-more entries h (Sent b) legal empty a one = by (decide a b) where
     first : (m : Message) × (slice_get (outbox board b h) 0 ≡ Some m)
     first = first-of (outbox board b h) (IsLegal-last board h (Sent b) legal).2
 
     by : (a ≡ b) ⊎ (a ≢ b) → HasAtMostOne board entries (h ++ Sent b ∷ []) a
     by (inl own) =
-        subst (HasAtMostOne board entries (h ++ Sent b ∷ [])) (sym own)
-        (Some first.0, delivered_sent board b h first.0 first.1 ∙ ap (λ ms. ms ++ first.0 ∷ []) empty)
-    by (inr other) = (one.0, delivered_other board a b h (IsLegal-front board h (Sent b) legal) other ∙ one.1)
+        subst (HasAtMostOne board entries (h ++ Sent b ∷ [])) (sym own) (
+          Some first.0,
+          delivered_sent board b h first.0 first.1
+              ∙ ap (λ ms. ms ++ first.0 ∷ []) empty,
+        )
+    by (inr other) =
+        (one.0, delivered_other board a b h (IsLegal-front board h (Sent b) legal) other ∙ one.1)
   posted-more entries h (Command b f) legal is a one = absurd is
   posted-more entries h (CommandFailed b f fault) legal is a one = absurd is
   posted-more entries h (Restarted b) legal is a one = (
@@ -314,7 +336,9 @@ module _ (may : Unseen) (board : Board) where
         subst (HasAtMostOne board (Delivered b m ∷ entries) (history after)) (sym own) (
           None,
           ap (λ ms. delivered_messages board b (history ms)) nothing ∙ fits.2
-              ∙ sym (append-nil (taken_by b entries ++ option_to_list (if b == b then Some m else None)) ∙ ap (λ c. taken_by b entries ++ option_to_list (if c then Some m else None)) (eq-eqb b b refl)),
+              ∙ sym (append-nil (taken_by b entries
+              ++ option_to_list (if b == b then Some m else None)) ∙ ap (λ c. taken_by b entries
+              ++ option_to_list (if c then Some m else None)) (eq-eqb b b refl)),
         )
     by (inr other) =
         same-posted entries h after (Delivered b m) a

@@ -37,11 +37,13 @@ HasEmptyChannel board entries h a = delivered_messages board a h ≡ taken_by a 
 
 -- after a history agent a has been seen to take all that was posted to it, or all but the last
 abbrev pub HasAtMostOne : Board → List Entry → List Event → ℕ → Type 0
-HasAtMostOne board entries h a = (posted : Option Message) × (delivered_messages board a h ≡ taken_by a entries ++ option_to_list posted)
+HasAtMostOne board entries h a = (posted : Option Message)
+    × (delivered_messages board a h ≡ taken_by a entries ++ option_to_list posted)
 
 -- whether a delayed response is wanted to the first set that is pending after a history
 abbrev pub is_first_wanted : Board → List Event → Bool
-is_first_wanted board h = option_map_or (λ (p : PendingSet). p.wanted) (slice_get (pending_sets board (deeds board h)) 0) false
+is_first_wanted board h = option_map_or (λ (p : PendingSet). p.wanted)
+    (slice_get (pending_sets board (deeds board h)) 0) false
 
 -- whether the hardware may refuse the change of the first set that is pending after a history
 abbrev pub may_refuse : Refusals → Board → List Event → Bool

@@ -12,7 +12,8 @@ in_place (Replied k a frame seen) (Answer due) = Replied k a frame due
 in_place (Delivered a seen) (Message due) = Delivered a due
 in_place entry verdict = entry
 
--- the answer or the message that a verdict says was due, in place of that of an entry, if it says so
+-- the answer or the message that a verdict says was due, in place of that of an entry, if it says
+-- so
 abbrev pub IsDue : Verdict → Entry → (Entry → Type 0) → Type 0
 IsDue (Answer due) (Answered a frame seen) Does = Does (Answered a frame due)
 IsDue (Answer due) (Replied k a frame seen) Does = Does (Replied k a frame due)

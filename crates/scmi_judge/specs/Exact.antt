@@ -17,7 +17,8 @@ use Rattle.scmi_judge.specs.declared.unseen.Unseen.{Unseen}
 pub record HaveGrown (may : Unseen) (g : Guess) (guesses new : List Guess) : Type 0 where
   pub added : List Guess
   pub are : new ≡ guesses ++ added
-  pub real : (board : Board) (entries : List Entry) → IsReal may board entries g → All (IsReal may board entries) added
+  pub real : (board : Board) (entries : List Entry) → IsReal may board entries g
+      → All (IsReal may board entries) added
 
 -- what a guess moves on to by a step is among some guesses
 abbrev pub IsTried : Unseen → Guess → Step → List Guess → Type 0
@@ -63,7 +64,8 @@ EndsShown may board (entry ∷ entries) after =
     (moves : List Move) × Behind may board entries moves × Fits may board entries moves entry after
 
 -- these guesses are all the platforms that may be behind these entries, at the last of them
-pub record AreExact (may : Unseen) (board : Board) (entries : List Entry) (guesses : List Guess) : Type 0 where
+pub record AreExact (may : Unseen) (board : Board) (entries : List Entry)
+    (guesses : List Guess) : Type 0 where
   pub real : All (IsReal may board entries) guesses
   pub all : (moves : List Move) → IsLegal board (history moves) → EndsShown may board entries moves
       → IsAmong may board entries moves guesses
@@ -72,7 +74,8 @@ pub record AreExact (may : Unseen) (board : Board) (entries : List Entry) (guess
 pub record HaveKept (may : Unseen) (guesses new : List Guess) : Type 0 where
   pub kept : (board : Board) (entries : List Entry) (moves : List Move)
       → IsAmong may board entries moves guesses → IsAmong may board entries moves new
-  pub real : (board : Board) (entries : List Entry) → All (IsReal may board entries) guesses → All (IsReal may board entries) new
+  pub real : (board : Board) (entries : List Entry) → All (IsReal may board entries) guesses
+      → All (IsReal may board entries) new
 
 -- these guesses are platforms of a board
 abbrev pub IsOfBoard : Board → List Guess → Type 0
@@ -86,15 +89,19 @@ IsKept may guesses all others =
     → IsAmong may board entries moves all ⊎ IsAmong may board entries moves others
 
 -- these guesses are the others after an entry: all those that give it
-pub record HaveGiven (may : Unseen) (guesses : List Guess) (entry : Entry) (left : List Guess) : Type 0 where
+pub record HaveGiven (may : Unseen) (guesses : List Guess) (entry : Entry)
+    (left : List Guess) : Type 0 where
   pub each : (board : Board) (entries : List Entry) (moves after : List Move)
       → IsAmong may board entries moves guesses → CanShow may board entries moves entry after
       → IsAmong may board (entry ∷ entries) after left
-  pub real : (board : Board) (entries : List Entry) → All (IsReal may board entries) guesses → All (IsReal may board (entry ∷ entries)) left
+  pub real : (board : Board) (entries : List Entry) → All (IsReal may board entries) guesses
+      → All (IsReal may board (entry ∷ entries)) left
 
 -- the same, of those that have been tried
-pub record AreGiven (may : Unseen) (guesses : List Guess) (entry : Entry) (left untried : List Guess) : Type 0 where
+pub record AreGiven (may : Unseen) (guesses : List Guess) (entry : Entry)
+    (left untried : List Guess) : Type 0 where
   pub each : (board : Board) (entries : List Entry) (moves after : List Move)
       → IsAmong may board entries moves guesses → CanShow may board entries moves entry after
       → IsAmong may board (entry ∷ entries) after left ⊎ IsAmong may board entries moves untried
-  pub real : (board : Board) (entries : List Entry) → All (IsReal may board entries) guesses → All (IsReal may board (entry ∷ entries)) left × All (IsReal may board entries) untried
+  pub real : (board : Board) (entries : List Entry) → All (IsReal may board entries) guesses
+      → All (IsReal may board (entry ∷ entries)) left × All (IsReal may board entries) untried

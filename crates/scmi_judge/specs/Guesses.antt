@@ -44,7 +44,8 @@ AreDifferent guesses = AllPairs (λ g other. g ≢ other) guesses
 
 -- each of these guesses may be behind these entries, and no two are the same: of those that were
 -- tried, and of those that are left
-pub record AreFound (may : Unseen) (board : Board) (entries : List Entry) (tried left : List Guess) : Type 0 where
+pub record AreFound (may : Unseen) (board : Board) (entries : List Entry)
+    (tried left : List Guess) : Type 0 where
   pub tried_real : All (IsReal may board entries) tried
   pub left_real : All (IsReal may board entries) left
   pub tried_differ : AreDifferent tried
@@ -54,7 +55,8 @@ pub record AreFound (may : Unseen) (board : Board) (entries : List Entry) (tried
 -- they stay so while one of them is tried
 abbrev pub StayFound : Unseen → Guess → List Guess → List Guess → List Guess → Type 0
 StayFound may g tried left new =
-    (board : Board) (entries : List Entry) → AreFound may board entries (tried ++ g ∷ []) left → AreFound may board entries (tried ++ g ∷ []) new
+    (board : Board) (entries : List Entry) → AreFound may board entries (tried ++ g ∷ []) left
+    → AreFound may board entries (tried ++ g ∷ []) new
 
 -- there are this many different platforms that may be behind these entries
 pub record AreMany (may : Unseen) (board : Board) (entries : List Entry) (count : ℕ) : Type 0 where
@@ -65,11 +67,13 @@ pub record AreMany (may : Unseen) (board : Board) (entries : List Entry) (count 
 
 -- whatever these guesses are found behind, there are this many
 abbrev pub FindsMany : Unseen → List Guess → List Guess → ℕ → Type 0
-FindsMany may tried left count = (board : Board) (entries : List Entry) → AreFound may board entries tried left → AreMany may board entries count
+FindsMany may tried left count = (board : Board) (entries : List Entry)
+    → AreFound may board entries tried left → AreMany may board entries count
 
 -- if a guess gives an entry, what it is after that was left, or was left before; or it does not,
 -- and the same are left
 abbrev pub IsGiven : Unseen → Guess → Entry → List Guess → List Guess → Type 0
 IsGiven may g entry left new =
     (GivesNot may g entry × (new ≡ left))
-    ⊎ ((made : Guess) × Gives may g entry made × ((new ≡ left ++ made ∷ []) ⊎ ((new ≡ left) × IsIn made left)))
+    ⊎ ((made : Guess) × Gives may g entry made
+    × ((new ≡ left ++ made ∷ []) ⊎ ((new ≡ left) × IsIn made left)))

@@ -30,4 +30,5 @@ is_same_frame _ _ = false
 
 -- whether two outstanding commands are the same, with the same answer
 abbrev pub is_same_outstanding : Outstanding → Outstanding → Bool
-is_same_outstanding a b = a.agent == b.agent && (is_same_frame a.frame b.frame && option_eq is_same_answer a.answer b.answer)
+is_same_outstanding a b = a.agent == b.agent
+    && (is_same_frame a.frame b.frame && option_eq is_same_answer a.answer b.answer)

@@ -89,4 +89,5 @@ message_of c = record { header = command_header c 0; payload = record { items = 
 -- one of the value that it read
 abbrev pub set_shown : Message → Message → Option Message
 set_shown command reply =
-    if sets_value (command_of command) then Some command else option_map message_of (value_shown (command_of command) reply.payload.items)
+    if sets_value (command_of command) then Some command
+    else option_map message_of (value_shown (command_of command) reply.payload.items)

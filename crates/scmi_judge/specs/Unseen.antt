@@ -17,7 +17,8 @@ IsOf Complete move = move ≡ Move.happens Advance
 IsOf Refuse move = move ≡ Move.happens (AdvanceFailed HardwareError)
 IsOf (Post a) move = move ≡ Move.happens (Sent a)
 IsOf (Restart a) move = move ≡ Move.happens (Restarted a)
-IsOf (Execute k) move = (a : ℕ) × (frame : Frame) × (answer : Answer) × (move ≡ Move.executes k (Command a frame) answer)
+IsOf (Execute k) move = (a : ℕ) × (frame : Frame) × (answer : Answer)
+    × (move ≡ Move.executes k (Command a frame) answer)
 IsOf (Fail k) move =
     (a : ℕ) × (frame : Frame) × (answer : Answer)
     × (move ≡ Move.executes k (CommandFailed a frame HardwareError) answer)

@@ -23,7 +23,8 @@ impl Guesses {
         ensures differs { result ≢ Same }
         ensures right { (board : Board) (entries : List Shown)
             → All (IsReal self.old.unseen board entries) self.old.others.items
-            → IsDue result entry.now (λ due. HasLegalHistory self.old.unseen board (due ∷ entries)) }
+            → IsDue result entry.now
+            (λ due. HasLegalHistory self.old.unseen board (due ∷ entries)) }
         ensures keeps { KeepBoard self.old self.new }
         ensures left { self.new.left ≡ self.old.left }
         ensures tried { self.new.tried ≡ self.old.tried }

@@ -32,10 +32,12 @@ harmless board s is =
     let alone = ungranted board s.caller s.command both.1 in
     record {
       change = ap (option_map (given s.caller)) none.0;
-      set = ap (option_map (made_pending s.caller s.header)) (unmapped _ (later_of board s.command) none.1);
+      set = ap (option_map (made_pending s.caller s.header))
+          (unmapped _ (later_of board s.command) none.1);
       permission = alone.1;
       subscription = λ a d.
-          ap (λ r. option_or (subscription_after_reset a r) (request_of a d s.caller s.command)) alone.0
+          ap (λ r. option_or (subscription_after_reset a r) (request_of a d s.caller s.command))
+          alone.0
           ∙ none.2 a d s.caller;
     }
 
@@ -43,10 +45,14 @@ pub complete : (board : Board) (s : Success) → DoesNothing board s → is_read
 complete board s does =
     let now : now_of board s.command ≡ None = unmapped (given s.caller) _ does.change in
     let later : later_effect_of board s.command ≡ None =
-    ap (option_map (λ l. setting_effect l.setting)) (unmapped (made_pending s.caller s.header) _ does.set) in
+    ap (option_map (λ l. setting_effect l.setting))
+    (unmapped (made_pending s.caller s.header) _ does.set) in
     let reset : reset_of s.command ≡ None =
-    (silent (reset_of s.command) (λ a. request_of a 0 s.caller s.command) (λ a. does.subscription a 0)).0 in
+    (silent (reset_of s.command) (λ a. request_of a 0 s.caller s.command)
+    (λ a. does.subscription a 0)).0 in
     let request : (d : ℕ) → request_of s.caller d s.caller s.command ≡ None = λ d.
-    (silent (reset_of s.command) (λ a. request_of a d s.caller s.command) (λ a. does.subscription a d)).1 s.caller in
-    ap (λ b. b && grants_nothing s.command) ((command_laws board s.caller).acts board s.command s.caller now later request)
+    (silent (reset_of s.command) (λ a. request_of a d s.caller s.command)
+    (λ a. does.subscription a d)).1 s.caller in
+    ap (λ b. b && grants_nothing s.command)
+    ((command_laws board s.caller).acts board s.command s.caller now later request)
     ∙ granting board s.caller s.command reset does.permission

@@ -85,7 +85,8 @@ said board h effect change follows is =
 came : (board : Board) (h : List Event) (a : ℕ) (m : Message) (change : Change)
     → IsAgent (length board.agents) a
     → option_and_then (change_asked board)
-    (success_at board (Command a (Good m)) (deed_after board (deeds board h) (Command a (Good m))).reply)
+    (success_at board (Command a (Good m))
+    (deed_after board (deeds board h) (Command a (Good m))).reply)
     ≡ Some change
     → CameOfCommand board (h ++ Command a (Good m) ∷ []) (length h) change
 came board h a m change agent asked =
@@ -110,7 +111,8 @@ module _ (board : Board) (h : List Event) (cs : List Change) where
       → HasPlaces board h (cs ++ completion p ∷ []) ps
   completed p ps had = by had.waiting had.pending had.apart had.below
     where
-      by : (waiting : List ℕ) → AllZip (λ n p. CameOfCommand board h n (completion p)) waiting (p ∷ ps)
+      by : (waiting : List ℕ)
+          → AllZip (λ n p. CameOfCommand board h n (completion p)) waiting (p ∷ ps)
           → Apart (had.places ++ waiting) → AllBelow (length h) (had.places ++ waiting)
           → HasPlaces board h (cs ++ completion p ∷ []) ps
       by [] pending apart below = absurd pending
@@ -138,7 +140,8 @@ module _ (board : Board) (h : List Event) (cs : List Change) where
   failed [] had = had
   failed (p ∷ ps) had = by had.waiting had.pending had.apart had.below
     where
-      by : (waiting : List ℕ) → AllZip (λ n p. CameOfCommand board h n (completion p)) waiting (p ∷ ps)
+      by : (waiting : List ℕ)
+          → AllZip (λ n p. CameOfCommand board h n (completion p)) waiting (p ∷ ps)
           → Apart (had.places ++ waiting) → AllBelow (length h) (had.places ++ waiting)
           → HasPlaces board h cs ps
       by [] pending apart below = absurd pending
@@ -179,7 +182,8 @@ module _ (board : Board) (h : List Event) (cs : List Change) where
     waiting = promoted place had.waiting;
     changed = had.changed;
     pending =
-        zip-promoted (λ n p. CameOfCommand board h n (completion p)) place had.waiting ps had.pending;
+        zip-promoted
+        (λ n p. CameOfCommand board h n (completion p)) place had.waiting ps had.pending;
     apart = apart-promoted place had.places had.waiting had.apart;
     below = each-promoted (λ k. k < length h) place had.places had.waiting had.below;
   }
@@ -246,7 +250,8 @@ module _ (board : Board) (h : List Event) (e : Event) (cs : List Change) (ps : L
         waiting = had.waiting ++ n ∷ [];
         changed = changed-kept;
         pending =
-            zip-append (λ n p. CameOfCommand board h' n (completion p)) had.waiting (n ∷ []) ps (p ∷ [])
+            zip-append (λ n p. CameOfCommand board h' n (completion p)) had.waiting
+            (n ∷ []) ps (p ∷ [])
             pending-kept (is, tt);
         apart = subst Apart same (apart-push (had.places ++ had.waiting) n had.apart had.below);
         below =

@@ -145,7 +145,8 @@ module _ (board : Board) (h : List Event) (a : ℕ) (m : Message) where
       let h' = h ++ Command a (Good m) ∷ [] in
       let pushed = deeds-push board h (Command a (Good m)) in
       let more = ap (successes board) pushed ∙ successes-push board (deeds board h) deed in
-      (All-pop (IsTrusted board) (successes board (deeds board h')) (successes board (deeds board h))
+      (All-pop (IsTrusted board) (successes board (deeds board h'))
+      (successes board (deeds board h))
       (added_success board deed) more (permissions board h')).1
 
   answered-own : (fits : Bool) → IfSome (answered fits) (IsTrusted board)

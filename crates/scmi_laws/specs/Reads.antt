@@ -44,7 +44,8 @@ is_read_frame board (Malformed len header) = false
 -- whether an event is a command of agent a, done or failed, that was refused or only reads
 abbrev pub is_quiet : Board → ℕ → List Event → Event → Bool
 is_quiet board a before event =
-    is_refused board a before event || option_map_or (is_read_frame board) (frame_from a event) false
+    is_refused board a before event
+    || option_map_or (is_read_frame board) (frame_from a event) false
 
 -- a history without agent a's commands that were refused or only read, each judged at its place
 unfoldable pub without_quiet : Board → ℕ → List Event → List Event

@@ -27,7 +27,8 @@ but_last ts [] fs e h = absurd (omega arith)
 but_last ts (k ∷ []) fs e h = (k, sym e)
 but_last ts (k ∷ (l ∷ ks)) fs e h = absurd (omega arith)
 
-at_most_one : {X : Type 0} (ts ks fs : List X) → ts ++ ks ≡ fs → length ks ≤ 1 → (ts ≡ fs) ⊎ IsAllButLast ts fs
+at_most_one : {X : Type 0} (ts ks fs : List X) → ts ++ ks ≡ fs → length ks ≤ 1
+    → (ts ≡ fs) ⊎ IsAllButLast ts fs
 at_most_one ts [] fs e h = inl (whole ts [] fs e refl)
 at_most_one ts (k ∷ ks) fs e h = inr (but_last ts (k ∷ ks) fs e (omega arith))
 
@@ -46,21 +47,28 @@ small_bit true = inr refl
 small_bit false = inl refl
 
 -- what was pushed into each ring is what was popped and what is in it
-module _ (p : CallerRings) (q : CalleeRings) (es : List (Box Envelope Global)) (ms : List Note) (envelopes : received q.frames ++ es ≡ sent p.frames) (notes : received p.answers ++ ms ≡ sent q.answers) where
+module _ (p : CallerRings) (q : CalleeRings) (es : List (Box Envelope Global))
+    (ms : List Note) (envelopes : received q.frames ++ es ≡ sent p.frames)
+    (notes : received p.answers ++ ms ≡ sent q.answers) where
   said_all : answers_among (received p.answers) ++ answers_among ms ≡ answers_among (sent q.answers)
   said_all = sym (answers_among-append (received p.answers) ms) ∙ ap answers_among notes
 
-  note_lengths : length (answers_among (received p.answers)) + length (answers_among ms) ≡ length (answers_among (sent q.answers))
-  note_lengths = sym (length-append (answers_among (received p.answers)) (answers_among ms)) ∙ ap length said_all
+  note_lengths : length (answers_among (received p.answers)) + length (answers_among ms)
+      ≡ length (answers_among (sent q.answers))
+  note_lengths = sym (length-append (answers_among (received p.answers)) (answers_among ms))
+      ∙ ap length said_all
 
   frames : frames_in (received q.frames) ++ frames_in es ≡ frames_in (sent p.frames)
   frames = sym (frames_in-append (received q.frames) es) ∙ ap frames_in envelopes
 
-  frame_lengths : length (frames_in (received q.frames)) + length (frames_in es) ≡ length (frames_in (sent p.frames))
-  frame_lengths = sym (length-append (frames_in (received q.frames)) (frames_in es)) ∙ ap length frames
+  frame_lengths : length (frames_in (received q.frames)) + length (frames_in es)
+      ≡ length (frames_in (sent p.frames))
+  frame_lengths = sym (length-append (frames_in (received q.frames)) (frames_in es))
+      ∙ ap length frames
 
   other_closed : p.told ≡ true → q.closed ≡ true
-  other_closed t = q.noted (ap has_closing (sym notes) ∙ has_closing-front (received p.answers) ms (sym p.heard ∙ t))
+  other_closed t = q.noted
+      (ap has_closing (sym notes) ∙ has_closing-front (received p.answers) ms (sym p.heard ∙ t))
 
   -- once the closing note was taken, nothing is in the ring of answers
   nothing_more : p.told ≡ true → ms ≡ []
@@ -68,8 +76,10 @@ module _ (p : CallerRings) (q : CalleeRings) (es : List (Box Envelope Global)) (
 
   pub agree : Agree (caller_rings_view p) (callee_rings_view q)
   agree = let few = one_bit p.waiting p.left p.one in record {
-    taken = at_most_one (frames_in (received q.frames)) (frames_in es) (frames_in (sent p.frames)) frames (omega (arith, note_lengths, frame_lengths, p.counted, q.counted));
-    answered = elim (small_bit q.owing) [ inl z ↦ inl (omega (arith, q.counted, z)) | inr z ↦ inr (omega (arith, q.counted, z)) ];
+    taken = at_most_one (frames_in (received q.frames)) (frames_in es) (frames_in (sent p.frames))
+        frames (omega (arith, note_lengths, frame_lengths, p.counted, q.counted));
+    answered = elim (small_bit q.owing)
+        [ inl z ↦ inl (omega (arith, q.counted, z)) | inr z ↦ inr (omega (arith, q.counted, z)) ];
     read = (answers_among ms, said_all);
     unread = omega (arith, p.counted);
   }
@@ -79,21 +89,38 @@ module _ (p : CallerRings) (q : CalleeRings) (es : List (Box Envelope Global)) (
     left = λ l.
         let told = p.gone l in
         let none = ap answers_among (nothing_more told) in
-        let read : answers_among (received p.answers) ≡ answers_among (sent q.answers) = whole _ (answers_among ms) _ said_all (ap length none) in
+        let read : answers_among (received p.answers) ≡ answers_among (sent q.answers) =
+        whole _ (answers_among ms) _ said_all (ap length none) in
         let idle = ap bit (unset p.waiting p.left p.one l) in
         let gave_up = ap bit l in
-        let done = ap bit (q.done (other_closed told)) in
-        (but_last (frames_in (received q.frames)) (frames_in es) (frames_in (sent p.frames)) frames (omega (arith, ap length read, frame_lengths, p.counted, q.counted, idle, gave_up, done)), read);
+        let done = ap bit (q.done (other_closed told)) in (
+          but_last (frames_in (received q.frames)) (frames_in es) (frames_in (sent p.frames)) frames
+              (omega (
+                arith,
+                ap length read,
+                frame_lengths,
+                p.counted,
+                q.counted,
+                idle,
+                gave_up,
+                done,
+              )),
+          read,
+        );
     idle = λ c l.
         let idle = ap bit (p.quiet c) in
         let stayed = ap bit l in (
-          whole (frames_in (received q.frames)) (frames_in es) (frames_in (sent p.frames)) frames (omega (arith, note_lengths, frame_lengths, p.counted, q.counted, idle, stayed)),
-          whole (answers_among (received p.answers)) (answers_among ms) (answers_among (sent q.answers)) said_all (omega (arith, note_lengths, frame_lengths, p.counted, q.counted, idle, stayed)),
+          whole (frames_in (received q.frames)) (frames_in es) (frames_in (sent p.frames)) frames
+              (omega (arith, note_lengths, frame_lengths, p.counted, q.counted, idle, stayed)),
+          whole (answers_among (received p.answers))
+              (answers_among ms) (answers_among (sent q.answers)) said_all
+              (omega (arith, note_lengths, frame_lengths, p.counted, q.counted, idle, stayed)),
         );
     caller_told = other_closed;
     callee_told = λ h. absurd (false≢true h);
   }
 
 -- what was seen last, of the lists at the start
-pub at_start : {X : Type 0} (out out' ahead into into' : List X) → out' ≡ out → into' ≡ into → out' ++ ahead ≡ into' → out ++ ahead ≡ into
+pub at_start : {X : Type 0} (out out' ahead into into' : List X) → out' ≡ out → into' ≡ into
+    → out' ++ ahead ≡ into' → out ++ ahead ≡ into
 at_start out out' ahead into into' o i e = ap (λ xs. xs ++ ahead) (sym o) ∙ e ∙ i

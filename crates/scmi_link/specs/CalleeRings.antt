@@ -8,8 +8,8 @@ use Rattle.scmi_link.specs.Rings.{rings_identity}
 use Rattle.scmi_link.specs.declared.rings.Rings.{Rings}
 use Rattle.scmi_link.specs.declared.callee_rings.CalleeRings.{CalleeRings}
 
--- what the callee has done; it is never notified of a close, since a caller closes only where nothing is
--- outstanding
+-- what the callee has done; it is never notified of a close, since a caller closes only where
+-- nothing is outstanding
 abbrev pub callee_rings_view : CalleeRings → CalleeView
 callee_rings_view c =
     record {

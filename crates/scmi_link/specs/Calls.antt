@@ -36,15 +36,18 @@ pub record FindsNoPlace (may_be_full : Bool) (old new : CallerView) : Type 0 whe
   pub none_outstanding : ¬ (IsOutstanding old)
   pub same : new ≡ record old { posts = one_more old.posts }
 
--- what a refused post leaves, by its reason: the first that applies; it is one call, as one that posts is
+-- what a refused post leaves, by its reason: the first that applies; it is one call, as one that
+-- posts is
 abbrev pub RefusesPost : Bool → CallerView → PostError → CallerView → Type 0
-RefusesPost may_be_full old refused.Outstanding new = IsOutstanding old × (new ≡ record old { posts = one_more old.posts })
+RefusesPost may_be_full old refused.Outstanding new = IsOutstanding old
+    × (new ≡ record old { posts = one_more old.posts })
 RefusesPost may_be_full old refused.Closed new = (¬ (IsOutstanding old)) × IsRefused old new
 RefusesPost may_be_full old refused.Full new = FindsNoPlace may_be_full old new
 RefusesPost may_be_full old refused.WellFormed new = ⊥
 
 -- what a post of this frame leaves; where the frame is malformed, its length was looked at before
-abbrev pub Posts : {T : Type 0} → Bool → CallerView → Frame → Result T PostError → CallerView → Type 0
+abbrev pub Posts : {T : Type 0} → Bool → CallerView → Frame → Result T PostError
+    → CallerView → Type 0
 Posts may_be_full old frame (Ok done) new = PostsFrame old frame new
 Posts may_be_full old frame (Err reason) new = RefusesPost may_be_full old reason new
 
@@ -77,7 +80,8 @@ pub record ClosesAndWithdraws (old new : CallerView) : Type 0 where
   pub was_outstanding : IsOutstanding old
   pub closed : new ≡ record old { closed = true; left = true }
 
--- what a caller's close leaves: it is refused only where a post is outstanding, and then nothing changed
+-- what a caller's close leaves: it is refused only where a post is outstanding, and then nothing
+-- changed
 abbrev pub ClosesCaller : CallerView → Result Closing CloseError → CallerView → Type 0
 ClosesCaller old (Ok closing.Idle) new = ClosesIdle old new
 ClosesCaller old (Ok closing.Withdrawn) new = ClosesAndWithdraws old new
@@ -99,7 +103,8 @@ abbrev pub Takes : CalleeView → Option Frame → CalleeView → Type 0
 Takes old None new = TakesNone old new
 Takes old (Some frame) new = TakesFrame old frame new
 
--- what a callee's close leaves: it is refused if and only if an answer is owed, and then nothing changed
+-- what a callee's close leaves: it is refused if and only if an answer is owed, and then nothing
+-- changed
 abbrev pub ClosesCallee : CalleeView → Result (Unit {0}) CloseError → CalleeView → Type 0
 ClosesCallee old (Ok done) new = (¬ (Owes old)) × (new ≡ record old { closed = true })
 ClosesCallee old (Err InService) new = Owes old × (new ≡ old)

@@ -15,7 +15,8 @@ ring_caller_view c = caller_rings_view c.rings
 abbrev pub ring_caller_identity : RingCaller → List ℕ
 ring_caller_identity c = c.identity.numbers
 
--- a ring takes no frame back and does not look for its answer: a close is idle, or refused as in service
+-- a ring takes no frame back and does not look for its answer: a close is idle, or refused as in
+-- service
 abbrev pub ring_close_shows : RingCaller → Result Closing CloseError → Type 0
 ring_close_shows c result = IsIdleOrInService result
 

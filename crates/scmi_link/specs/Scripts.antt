@@ -13,7 +13,8 @@ pub record AreScriptsOf (agents : ℕ) (scripts : List Script) : Type 0 where
 -- the orders of an agent; none if it has no script
 abbrev pub orders_of : List Script → ℕ → List Order
 orders_of [] agent = []
-orders_of (script ∷ scripts) agent = if script.agent == agent then script.lines.items else orders_of scripts agent
+orders_of (script ∷ scripts) agent = if script.agent == agent then script.lines.items
+    else orders_of scripts agent
 
 -- whether the order is to close
 abbrev pub is_close : Order → Bool

@@ -23,7 +23,15 @@ pub record CalleeView : Type 0 where
 
 -- a caller that has done nothing
 abbrev pub new_caller : CallerView
-new_caller = record { posted = []; read = []; closed = false; told = false; left = false; posts = 0; collects = 0 }
+new_caller = record {
+  posted = [];
+  read = [];
+  closed = false;
+  told = false;
+  left = false;
+  posts = 0;
+  collects = 0;
+}
 
 -- a callee that has done nothing
 abbrev pub new_callee : CalleeView

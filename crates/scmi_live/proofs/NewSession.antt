@@ -10,7 +10,14 @@ use Rattle.scmi_modes.specs.SessionView.{SessionView}
 
 -- agent n, which has done nothing
 new_agent : ℕ → AgentView
-new_agent n = record { id = n; token = 0; caller = new_caller; callee = new_callee; a2p_identity = []; p2a_identity = [] }
+new_agent n = record {
+  id = n;
+  token = 0;
+  caller = new_caller;
+  callee = new_callee;
+  a2p_identity = [];
+  p2a_identity = [];
+}
 
 -- an agent for each name, from number n on
 abbrev new_agents : ℕ → List (List ℕ) → List AgentView

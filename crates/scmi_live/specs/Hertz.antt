@@ -31,7 +31,8 @@ clock_line word name state rates = word ++ behind_spaces (name ∷ state ∷ map
 
 -- a line of these items, with its rates in Hz if it is of a clock
 abbrev pub of_items : List ℕ → List (List ℕ) → List ℕ
-of_items line (word ∷ name ∷ state ∷ rates) = if bytes_eq word CLOCK.now then clock_line word name state rates else line
+of_items line (word ∷ name ∷ state ∷ rates) = if bytes_eq word CLOCK.now
+    then clock_line word name state rates else line
 of_items line items = line
 
 -- a line, with its rates in Hz if it is of a clock

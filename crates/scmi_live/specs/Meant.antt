@@ -23,15 +23,19 @@ or_step None other = other
 
 -- the step of a line as a script has it
 abbrev pub step_by_numbers : ℕ → List ℕ → Option Step
-step_by_numbers agents text = or_step (plain_step_of_line agents text) (hardware_step_of_line agents text)
+step_by_numbers agents text =
+    or_step (plain_step_of_line agents text) (hardware_step_of_line agents text)
 
--- the step that a line encodes, on a board with this number of agents: a line of numbers is the step that a script has in it, whatever names the board has
+-- the step that a line encodes, on a board with this number of agents: a line of numbers is the
+-- step that a script has in it, whatever names the board has
 abbrev pub step_meant : Board → ℕ → List ℕ → Option Step
-step_meant board agents text = or_step (step_by_numbers agents text) (step_by_names board agents text)
+step_meant board agents text =
+    or_step (step_by_numbers agents text) (step_by_names board agents text)
 
 -- whether replies are described after a line that says so
 abbrev pub described_by : List ℕ → Option Bool
-described_by text = if bytes_eq text WORDS_ON.now then Some true else if bytes_eq text WORDS_OFF.now then Some false else None
+described_by text = if bytes_eq text WORDS_ON.now then Some true else if bytes_eq text WORDS_OFF.now
+    then Some false else None
 
 -- whether a line asks for help, or for help on something
 abbrev pub is_help : List ℕ → Bool
@@ -39,7 +43,8 @@ is_help text = bytes_eq text HELP.now || bytes_eq (take (length HELP_ON.now) tex
 
 -- a line that asks for help or ends the session, or another
 abbrev pub help_or_quit_or : List ℕ → Meant → Meant
-help_or_quit_or text other = if is_help text then Help else if bytes_eq text QUIT.now then Quit else other
+help_or_quit_or text other = if is_help text then Help else if bytes_eq text QUIT.now
+    then Quit else other
 
 -- a line that is a step, or none
 abbrev pub step_or_unknown : Option Step → Meant
@@ -59,4 +64,5 @@ IsMeantOf agents other = Unit {0}
 -- what a line means, on a board with this number of agents
 unfoldable pub line_meant : Board → ℕ → List ℕ → Meant
 line_meant board agents text =
-    if not (is_significant text) then Nothing else describe_or (described_by text) (help_or_quit_or text (step_or_unknown (step_meant board agents text)))
+    if not (is_significant text) then Nothing else describe_or (described_by text)
+    (help_or_quit_or text (step_or_unknown (step_meant board agents text)))

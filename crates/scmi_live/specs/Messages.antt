@@ -14,7 +14,8 @@ id_in name (row ∷ rows) = if bytes_eq row.name name then Some row.id else id_i
 -- the first of these protocols that has this name
 abbrev pub protocol_in : List ℕ → List Protocol → Option ℕ
 protocol_in name [] = None
-protocol_in name (row ∷ rows) = if bytes_eq row.name name then Some row.id else protocol_in name rows
+protocol_in name (row ∷ rows) = if bytes_eq row.name name then Some row.id
+    else protocol_in name rows
 
 -- the protocol of a name
 abbrev pub protocol_named : List ℕ → Option ℕ
@@ -34,10 +35,12 @@ one_more found protocol None = Some found
 one_more None protocol (Some id) = Some (Some (protocol, id))
 one_more (Some first) protocol (Some id) = None
 
--- the protocol and id of the message of a name that one of these protocols has, where others may have been seen
+-- the protocol and id of the message of a name that one of these protocols has, where others may
+-- have been seen
 abbrev pub only_in : List ℕ → Option (ℕ × ℕ) → List Protocol → Option (ℕ × ℕ)
 only_in name found [] = found
-only_in name found (row ∷ rows) = option_and_then (λ next. only_in name next rows) (one_more found row.id (id_in name row.messages))
+only_in name found (row ∷ rows) = option_and_then (λ next. only_in name next rows)
+    (one_more found row.id (id_in name row.messages))
 
 -- the protocol and id of the message of a name that one protocol alone has
 abbrev pub message_named : List ℕ → Option (ℕ × ℕ)

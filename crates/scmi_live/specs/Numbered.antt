@@ -9,7 +9,8 @@ use Rattle.scmi_text.specs.StepText.{hardware_step_of_line}
 use Rattle.scmi_text.specs.declared.step.Step.{Step}
 use Rattle.scmi_live.specs.Meant.{step_by_names}
 
--- a line that is a step by its numbers stays, and so does one that is none by its names; another becomes a line whose numbers are the step of its names
+-- a line that is a step by its numbers stays, and so does one that is none by its names; another
+-- becomes a line whose numbers are the step of its names
 abbrev pub IsLineBy : (numbers names : Option Step) → ℕ → (text line : List ℕ) → Type 0
 IsLineBy (Some step) names agents text line = line ≡ text
 IsLineBy None None agents text line = line ≡ text
@@ -17,12 +18,14 @@ IsLineBy None (Some step) agents text line = hardware_step_of_line agents line �
 
 -- a line of a script, and what it becomes
 abbrev pub IsLineInNumbers : Board → ℕ → (text line : List ℕ) → Type 0
-IsLineInNumbers board agents text line = IsLineBy (hardware_step_of_line agents text) (step_by_names board agents text) agents text line
+IsLineInNumbers board agents text line =
+    IsLineBy (hardware_step_of_line agents text) (step_by_names board agents text) agents text line
 
 -- lines, and what each becomes
 abbrev pub AreInNumbers : Board → ℕ → (texts lines : List (List ℕ)) → Type 0
 AreInNumbers board agents [] [] = Unit {0}
-AreInNumbers board agents (text ∷ texts) (line ∷ lines) = IsLineInNumbers board agents text line × AreInNumbers board agents texts lines
+AreInNumbers board agents (text ∷ texts) (line ∷ lines) = IsLineInNumbers board agents text line
+    × AreInNumbers board agents texts lines
 AreInNumbers board agents texts lines = ⊥
 
 -- what the lines of a text become, with a line feed between each two
@@ -42,9 +45,11 @@ abbrev pub IsInNumbersBy : Result (Described × List Line) ℕ → (text made : 
 IsInNumbersBy (Err line) text made = made ≡ text
 IsInNumbersBy (Ok found) text made = IsInNumbersOf found.0.0 (length found.0.0.agents) text made
 
--- a board and a script of the modes `hardware`, as they follow the line of the mode, and what they become
+-- a board and a script of the modes `hardware`, as they follow the line of the mode, and what they
+-- become
 abbrev pub IsInNumbers : (text made : List ℕ) → Type 0
-IsInNumbers text made = IsInNumbersBy (described_left (record { rest = text; number = 1 })) text made
+IsInNumbers text made =
+    IsInNumbersBy (described_left (record { rest = text; number = 1 })) text made
 
 -- a line is a step by its numbers, or none by its names, as an empty line and a comment are
 abbrev pub StaysBy : (numbers names : Option Step) → Type 0
@@ -55,12 +60,14 @@ StaysBy None (Some step) = ⊥
 -- so is each of these lines
 abbrev pub AllStay : Board → ℕ → List (List ℕ) → Type 0
 AllStay board agents [] = Unit {0}
-AllStay board agents (text ∷ texts) = StaysBy (hardware_step_of_line agents text) (step_by_names board agents text) × AllStay board agents texts
+AllStay board agents (text ∷ texts) = StaysBy (hardware_step_of_line agents text)
+    (step_by_names board agents text) × AllStay board agents texts
 
 -- a script that begins with this board has no line with names
 abbrev pub HasNoNamesBy : Result (Described × List Line) ℕ → List ℕ → Type 0
 HasNoNamesBy (Err line) text = Unit {0}
-HasNoNamesBy (Ok found) text = AllStay found.0.0 (length found.0.0.agents) (slice_split is_line_feed text)
+HasNoNamesBy (Ok found) text =
+    AllStay found.0.0 (length found.0.0.agents) (slice_split is_line_feed text)
 
 -- a board and a script have no line with names
 abbrev pub HasNoNames : List ℕ → Type 0

@@ -29,26 +29,34 @@ abbrev pub plain_board : LinesView → Result (Described × List Line) ℕ
 plain_board lines = without_lines (board_left lines)
 
 module _ {A : Type 0} where
-  -- a board, with the channels that its text gives, and what follows it, if it keeps every rule; else the first rule that it breaks
+  -- a board, with the channels that its text gives, and what follows it, if it keeps every rule;
+  -- else the first rule that it breaks
   unfoldable pub valid : Described → A → Result (Board × A) RunError
-  valid said script = elim (first_fault said.0) [ None ↦ Ok (with_lines said.0 said.1, script) | Some rule ↦ Err (PlanFault (number rule)) ]
+  valid said script = elim (first_fault said.0)
+      [ None ↦ Ok (with_lines said.0 said.1, script) | Some rule ↦ Err (PlanFault (number rule)) ]
 
-  -- a board with its scripts, as the lines say for its number of agents; else the first line that is part of no script. A board of 2 ^ 32 agents, which no input has, breaks rule 1 before its scripts are read
-  unfoldable pub with_scripts : (ℕ → List Line → Result A ℕ) → Described → List Line → Result (Board × A) RunError
+  -- a board with its scripts, as the lines say for its number of agents; else the first line that
+  -- is part of no script. A board of 2 ^ 32 agents, which no input has, breaks rule 1 before its
+  -- scripts are read
+  unfoldable pub with_scripts : (ℕ → List Line → Result A ℕ) → Described → List Line
+      → Result (Board × A) RunError
   with_scripts scripts said lines =
-      if nat_le (2 ^ 32) (length said.0.agents) then Err (PlanFault 1) else elim (scripts (length said.0.agents) lines) [
+      if nat_le (2 ^ 32) (length said.0.agents) then Err (PlanFault 1)
+      else elim (scripts (length said.0.agents) lines) [
         | Err line ↦ Err (ScriptFault line)
         | Ok script ↦ valid said script
       ]
 
   -- the board and the scripts of an input, as its lines describe them; else its first fault
-  unfoldable pub input_of : (LinesView → Result (Described × List Line) ℕ) → (ℕ → List Line → Result A ℕ) → List ℕ → Result (Board × A) RunError
+  unfoldable pub input_of : (LinesView → Result (Described × List Line) ℕ)
+      → (ℕ → List Line → Result A ℕ) → List ℕ → Result (Board × A) RunError
   input_of boards scripts input = elim (boards (behind_mode input)) [
     | Err line ↦ Err (BoardFault line)
     | Ok found ↦ with_scripts scripts found.0 found.1
   ]
 
-  -- a text that encodes a board and scripts, or neither, is rejected by this fault, which may also be out of memory
+  -- a text that encodes a board and scripts, or neither, is rejected by this fault, which may also
+  -- be out of memory
   abbrev pub FailsInput : RunError → Result A RunError → Type 0
   FailsInput (BoardFault line) there = there ≡ Err (BoardFault line)
   FailsInput (ScriptFault line) there = there ≡ Err (ScriptFault line)
@@ -56,7 +64,8 @@ module _ {A : Type 0} where
   FailsInput Memory there = ⊤
   FailsInput _ there = ⊥
 
-  -- a fault of a run of an input that encodes this: its length, or its first fault; a failed output comes only of an input without a fault. A failed read, or out of memory, shows nothing of it
+  -- a fault of a run of an input that encodes this: its length, or its first fault; a failed output
+  -- comes only of an input without a fault. A failed read, or out of memory, shows nothing of it
   abbrev pub IsFaultOf : List ℕ → Result A RunError → RunError → Type 0
   IsFaultOf input there Size = INPUT_BYTES < length input
   IsFaultOf input there Read = ⊤
@@ -68,7 +77,8 @@ module _ {A : Type 0} where
   IsFaultOrLimit input there Limit = (value : A) × (there ≡ Ok value)
   IsFaultOrLimit input there fault = IsFaultOf input there fault
 
--- the board that lines describe before a script of this kind, and the lines after it: beside hardware with its agents' channels
+-- the board that lines describe before a script of this kind, and the lines after it: beside
+-- hardware with its agents' channels
 abbrev pub board_of_lines : ScriptKind → LinesView → Result (Described × List Line) ℕ
 board_of_lines Plain lines = plain_board lines
 board_of_lines Hardware lines = described_left lines

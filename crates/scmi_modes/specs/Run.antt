@@ -27,16 +27,20 @@ module _ (full : Bool) (Shows : CallerView → Result Closing CloseError → Typ
   -- these steps are made one after the other, and each gives its line
   abbrev pub AllSteps : List Step → List StepLine → SessionView → SessionView → Type 0
   AllSteps [] [] old new = new ≡ old
-  AllSteps (s ∷ steps) (line ∷ lines) old new = (next : SessionView) × Steps full Shows s line old next × AllSteps steps lines next new
+  AllSteps (s ∷ steps) (line ∷ lines) old new = (next : SessionView)
+      × Steps full Shows s line old next × AllSteps steps lines next new
   AllSteps _ _ old new = ⊥
 
   -- these steps of a new session on this board give these lines, and leave this
-  pub record Runs (board : Board) (steps : List Step) (lines : List StepLine) (last : SessionView) : Type 0 where
+  pub record Runs (board : Board) (steps : List Step) (lines : List StepLine)
+      (last : SessionView) : Type 0 where
     pub first : SessionView
     pub new : IsNewSession board first
     pub made : AllSteps steps lines first last
 
--- once all endpoints are gathered: the history is legal, and says about each agent what that agent did
+-- once all endpoints are gathered: the history is legal, and says about each agent what that agent
+-- did
 pub record IsGathered (session : SessionView) : Type 0 where
   pub legal : IsLegal session.platform.board session.platform.history
-  pub headline : Headlines session.platform.board session.platform.history 1 session.agents session.platform.callees session.platform.callers
+  pub headline : Headlines session.platform.board session.platform.history 1 session.agents
+      session.platform.callees session.platform.callers

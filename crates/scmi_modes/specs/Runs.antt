@@ -29,14 +29,16 @@ logs_text n [] = []
 logs_text n (log ∷ logs) = lines_text n log.lines.items ++ logs_text (n + 1) logs
 
 module _ (full : Bool) (board : Board) (scripts : List Script) where
-  -- what is written is the text of what a run of these scripts left: its logs follow the scripts, and agree with one legal history of the board, of plain events alone
+  -- what is written is the text of what a run of these scripts left: its logs follow the scripts,
+  -- and agree with one legal history of the board, of plain events alone
   pub record IsTextOfOutcome (outcome : Outcome) (old new : Option (List ℕ)) : Type 0 where
     pub of_agents : AreScriptsOf (length board.agents) scripts
     pub legal : IsLegal board outcome.trace.events
     pub plain : All IsPlain outcome.trace.events
     pub count : vec_len outcome.logs ≡ length board.agents
     pub follow : AllFrom (λ a log. IsScriptLog full (orders_of scripts a) log) 1 outcome.logs.items
-    pub headline : AllFrom (λ a log. LogHeadline board outcome.trace.events a log) 1 outcome.logs.items
+    pub headline : AllFrom
+        (λ a log. LogHeadline board outcome.trace.events a log) 1 outcome.logs.items
     pub text : Appends old new (logs_text 1 outcome.logs.items)
 
   -- what is written is the text of a run of these scripts to their ends
@@ -45,19 +47,24 @@ module _ (full : Bool) (board : Board) (scripts : List Script) where
     pub not_stopped : All (λ log. log.stopped ≡ None) outcome.logs.items
     pub told : IsTextOfOutcome outcome old new
 
-  -- what is written is the text of a run of these scripts that may have been stopped: each log follows its script as far as it came
+  -- what is written is the text of a run of these scripts that may have been stopped: each log
+  -- follows its script as far as it came
   pub record IsTextOfAnyRun (old new : Option (List ℕ)) : Type 0 where
     pub outcome : Outcome
     pub told : IsTextOfOutcome outcome old new
 
 -- an input, if it is known, encodes this board and these scripts
 abbrev pub AreScriptsOfInput : Option (List ℕ) → Board → List Script → Type 0
-AreScriptsOfInput known board scripts = IfSome known (λ input. scripts_of_input input ≡ Ok (board, scripts_of scripts))
+AreScriptsOfInput known board scripts =
+    IfSome known (λ input. scripts_of_input input ≡ Ok (board, scripts_of scripts))
 
--- what is written is the text of a run, to their ends, of the scripts that the input encodes, on its board
+-- what is written is the text of a run, to their ends, of the scripts that the input encodes, on
+-- its board
 abbrev pub IsTextOfRun : Bool → Option (List ℕ) → Option (List ℕ) → Option (List ℕ) → Type 0
-IsTextOfRun full known old new = (board : Board) × (scripts : List Script) × AreScriptsOfInput known board scripts × IsTextOfEndedRun full board scripts old new
+IsTextOfRun full known old new = (board : Board) × (scripts : List Script)
+    × AreScriptsOfInput known board scripts × IsTextOfEndedRun full board scripts old new
 
 -- the same of a run that may have been stopped
 abbrev pub IsTextOfStoppedRun : Bool → Option (List ℕ) → Option (List ℕ) → Option (List ℕ) → Type 0
-IsTextOfStoppedRun full known old new = (board : Board) × (scripts : List Script) × AreScriptsOfInput known board scripts × IsTextOfAnyRun full board scripts old new
+IsTextOfStoppedRun full known old new = (board : Board) × (scripts : List Script)
+    × AreScriptsOfInput known board scripts × IsTextOfAnyRun full board scripts old new

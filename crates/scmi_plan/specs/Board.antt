@@ -39,7 +39,8 @@ pub record Board : Type 0 where
   pub free : ℕ
   -- the ids of the protocols besides the base protocol, rising
   pub protocols : List ℕ
-  -- whether names may be empty and have spaces, and a clock may start at a rate that is none of its own
+  -- whether names may be empty and have spaces, and a clock may start at a rate that is none of its
+  -- own
   pub loose : Bool
 
 -- what a name may be, with and without this freedom (own)
@@ -77,11 +78,13 @@ holds device (resource.Clock c) = bit_at device.clocks c == 1
 
 -- a domain by its number
 abbrev pub domain_at : Board → ℕ → Domain
-domain_at board d = get_or board.domains d (record { name = []; on = false; synchronous = false; asynchronous = false; notify = false })
+domain_at board d = get_or board.domains d
+    (record { name = []; on = false; synchronous = false; asynchronous = false; notify = false })
 
 -- a clock by its number
 abbrev pub clock_at : Board → ℕ → Clock
-clock_at board c = get_or board.clocks c (record { name = []; enabled = false; rate = 0; rates = rates.list [] })
+clock_at board c =
+    get_or board.clocks c (record { name = []; enabled = false; rate = 0; rates = rates.list [] })
 
 -- a device of a list, by its number
 abbrev pub device_in : List Device → ℕ → Device
@@ -103,7 +106,8 @@ IsPossible (resource.Clock c) = c < CLOCKS
 
 -- a mask has the devices that hold a resource, and no others: bit d is for device d
 abbrev pub AreHolders : List Device → Resource → ℕ → Type 0
-AreHolders devices r mask = (d : ℕ) → d < DEVICES → (bit_at mask d == 1) ≡ (nat_lt d (length devices) && holds (device_in devices d) r)
+AreHolders devices r mask = (d : ℕ) → d < DEVICES
+    → (bit_at mask d == 1) ≡ (nat_lt d (length devices) && holds (device_in devices d) r)
 
 -- a mask with one more bit
 abbrev pub mask_with : ℕ → ℕ → ℕ
@@ -165,9 +169,12 @@ masks_with masks a devices = set masks (a - 1) (bit_or (get_or masks (a - 1) 0) 
 
 -- what is denied, and to agent a more devices, as a whole or for a protocol
 abbrev pub denied_also : Denied → (a devices : ℕ) → Scope → Denied
-denied_also denied a devices scope.Device = record denied { devices = masks_with denied.devices a devices }
-denied_also denied a devices scope.Power = record denied { power = masks_with denied.power a devices }
-denied_also denied a devices scope.Clock = record denied { clocks = masks_with denied.clocks a devices }
+denied_also denied a devices scope.Device =
+    record denied { devices = masks_with denied.devices a devices }
+denied_also denied a devices scope.Power =
+    record denied { power = masks_with denied.power a devices }
+denied_also denied a devices scope.Clock =
+    record denied { clocks = masks_with denied.clocks a devices }
 
 -- the same board, with devices denied to agent a from the start, as a whole or for a protocol:
 -- bit d is for device d

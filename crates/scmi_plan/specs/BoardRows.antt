@@ -6,8 +6,8 @@ use Rattle.scmi_plan.specs.PlanError.{has_valid_counts}
 use Rattle.scmi_plan.specs.declared.board_rows.BoardRows.TheInside.{Inside}
 use Rattle.scmi_plan.specs.declared.limits.TheConstants.{AGENTS}
 
--- the board of rows: channels are whole, nothing is kept or denied, all is there, no clock is free, and its protocols are
--- power domains and clocks
+-- the board of rows: channels are whole, nothing is kept or denied, all is there, no clock is free,
+-- and its protocols are power domains and clocks
 abbrev pub board_of_rows : Inside → Board
 board_of_rows rows =
     record {

@@ -44,9 +44,12 @@ pub record IsValid (board : Board) : Type 0 where
   pub domain_names : (d : ℕ) → d < length board.domains → IsNameOf board (domain_at board d).name
   pub clock_names : (c : ℕ) → c < length board.clocks → IsNameOf board (clock_at board c).name
   pub valid_rates : (c : ℕ) → c < length board.clocks → HasValidRates (clock_at board c).rates
-  pub supported : (c : ℕ) → c < length board.clocks → board.loose ≡ false → IsSupported (clock_at board c).rates (clock_at board c).rate
-  pub known_domains : (d : ℕ) → d < length board.devices → (device_at board d).domains < 2 ^ length board.domains
-  pub known_clocks : (d : ℕ) → d < length board.devices → (device_at board d).clocks < 2 ^ length board.clocks
+  pub supported : (c : ℕ) → c < length board.clocks → board.loose ≡ false
+      → IsSupported (clock_at board c).rates (clock_at board c).rate
+  pub known_domains : (d : ℕ) → d < length board.devices
+      → (device_at board d).domains < 2 ^ length board.domains
+  pub known_clocks : (d : ℕ) → d < length board.devices
+      → (device_at board d).clocks < 2 ^ length board.clocks
   pub trusted : 1 ≤ board.trusted
   pub trusted_agent : board.trusted ≤ length board.agents
   pub channels : length board.channels ≡ AGENTS
@@ -54,11 +57,13 @@ pub record IsValid (board : Board) : Type 0 where
   pub protocols : AreProtocols board.protocols
 
 -- one mask for each of the first `count` domains or clocks: the devices that hold it
-pub record AreMasks (devices : List Device) (named : ℕ → Resource) (count : ℕ) (masks : List ℕ) : Type 0 where
+pub record AreMasks (devices : List Device) (named : ℕ → Resource) (count : ℕ)
+    (masks : List ℕ) : Type 0 where
   pub rows : length masks ≡ count
   pub holders : (r : ℕ) → r < count → AreHolders devices (named r) (get_or masks r 0)
 
--- what a plan keeps: its board is valid, its masks are those of the board's devices, and its own protocols stand apart
+-- what a plan keeps: its board is valid, its masks are those of the board's devices, and its own
+-- protocols stand apart
 pub record IsPlan (p : Inside) : Type 0 where
   pub valid : IsValid (board_of p)
   pub domain_masks : AreMasks p.devices.items resource.Domain DOMAINS p.domain_holders

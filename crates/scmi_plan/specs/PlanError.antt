@@ -13,15 +13,18 @@ use Rattle.scmi_plan.specs.declared.plan_error.PlanError.TheVariants as error
 abbrev pub has_valid_counts : Board → Bool
 has_valid_counts board =
     nat_le 1 (length board.agents) && nat_le (length board.agents) AGENTS
-    && nat_le (length board.domains) DOMAINS && nat_le (length board.clocks) CLOCKS && nat_le (length board.devices) DEVICES
+    && nat_le (length board.domains) DOMAINS && nat_le (length board.clocks) CLOCKS
+    && nat_le (length board.devices) DEVICES
 
 -- 1 to 15 bytes, each 0x21 to 0x7E (own)
 abbrev pub is_name : List ℕ → Bool
-is_name bytes = nat_le 1 (length bytes) && nat_le (length bytes) NAME_BYTES && list_all (λ byte. nat_le 0x21 byte && nat_le byte 0x7E) bytes
+is_name bytes = nat_le 1 (length bytes) && nat_le (length bytes) NAME_BYTES
+    && list_all (λ byte. nat_le 0x21 byte && nat_le byte 0x7E) bytes
 
 -- at most 15 bytes, each 0x20 to 0x7E (own)
 abbrev pub is_loose_name : List ℕ → Bool
-is_loose_name bytes = nat_le (length bytes) NAME_BYTES && list_all (λ byte. nat_le 0x20 byte && nat_le byte 0x7E) bytes
+is_loose_name bytes = nat_le (length bytes) NAME_BYTES
+    && list_all (λ byte. nat_le 0x20 byte && nat_le byte 0x7E) bytes
 
 -- a name that the board may have (own)
 abbrev pub is_name_of : Board → List ℕ → Bool
@@ -30,8 +33,10 @@ is_name_of board bytes = if board.loose then is_loose_name bytes else is_name by
 -- each name of the board is one that it may have (own)
 abbrev pub has_valid_names : Board → Bool
 has_valid_names board =
-    is_name_of board board.vendor && is_name_of board board.sub_vendor && list_all (λ agent. is_name_of board agent) board.agents
-    && list_all (λ domain. is_name_of board domain.name) board.domains && list_all (λ clock. is_name_of board clock.name) board.clocks
+    is_name_of board board.vendor && is_name_of board board.sub_vendor
+    && list_all (λ agent. is_name_of board agent) board.agents
+    && list_all (λ domain. is_name_of board domain.name) board.domains
+    && list_all (λ clock. is_name_of board clock.name) board.clocks
 
 -- each rate is below the next
 abbrev pub rises : List ℕ → Bool
@@ -50,16 +55,19 @@ is_valid (rates.steps low high step) = nat_le 1 step && nat_le low high && (high
 -- a rate is one of the list, or a number of steps above the lowest
 abbrev pub supports : SupportedRates → ℕ → Bool
 supports (rates.list list) rate = list_any (λ r. r == rate) list
-supports (rates.steps low high step) rate = nat_le low rate && nat_le rate high && (rate - low) % step == 0
+supports (rates.steps low high step) rate =
+    nat_le low rate && nat_le rate high && (rate - low) % step == 0
 
 -- each clock has valid rates, and starts at one of them, unless the board is loose (own)
 abbrev pub has_valid_clocks : Board → Bool
-has_valid_clocks board = list_all (λ clock. is_valid clock.rates && (board.loose || supports clock.rates clock.rate)) board.clocks
+has_valid_clocks board = list_all
+    (λ clock. is_valid clock.rates && (board.loose || supports clock.rates clock.rate)) board.clocks
 
 -- each device holds only domains and clocks of the board (own)
 abbrev pub has_valid_devices : Board → Bool
 has_valid_devices board =
-    list_all (λ device. nat_lt device.domains (2 ^ length board.domains) && nat_lt device.clocks (2 ^ length board.clocks)) board.devices
+    list_all (λ device. nat_lt device.domains (2 ^ length board.domains)
+    && nat_lt device.clocks (2 ^ length board.clocks)) board.devices
 
 -- the trusted agent is one of the board's (own)
 abbrev pub has_trusted_agent : Board → Bool

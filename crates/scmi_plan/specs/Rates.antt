@@ -19,11 +19,13 @@ rates_of (rates.Steps low high step) = steps low high step
 -- the supported rates in Hz, rising: those of a list, or every step from low to high
 abbrev pub members : SupportedRates → List ℕ
 members (list rates) = rates
-members (steps low high step) = map (λ k. low + k * step) (range_with_len 0 ((high - low) / step + 1))
+members (steps low high step) =
+    map (λ k. low + k * step) (range_with_len 0 ((high - low) / step + 1))
 
 -- a list of 1 to 64 rates that rises, or steps that end at the highest rate (own)
 abbrev pub HasValidRates : SupportedRates → Type 0
-HasValidRates (list rates) = (1 ≤ length rates) × (length rates ≤ RATES) × IsStrictlyIncreasing rates
+HasValidRates (list rates) = (1 ≤ length rates) × (length rates ≤ RATES)
+    × IsStrictlyIncreasing rates
 HasValidRates (steps low high step) = (1 ≤ step) × (low ≤ high) × ((high - low) % step ≡ 0)
 
 -- a rate is supported

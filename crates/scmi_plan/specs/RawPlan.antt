@@ -22,10 +22,15 @@ asked_domain raw =
 
 -- a clock with its name as bytes
 abbrev pub asked_clock : RawClock → Clock
-asked_clock raw = record { name = string_bytes raw.name; enabled = raw.enabled; rate = raw.rate; rates = rates_of raw.rates }
+asked_clock raw = record {
+  name = string_bytes raw.name;
+  enabled = raw.enabled;
+  rate = raw.rate;
+  rates = rates_of raw.rates;
+}
 
--- the board with its names as bytes: channels are whole, nothing is kept or denied, all is there, no clock is free, and
--- its protocols are power domains and clocks; it is never loose
+-- the board with its names as bytes: channels are whole, nothing is kept or denied, all is there,
+-- no clock is free, and its protocols are power domains and clocks; it is never loose
 abbrev pub asked_board : RawPlan → Board
 asked_board raw =
     record {

@@ -44,22 +44,26 @@ no_domain board d = nat_le (length board.domains) d || is_absent board (resource
 abbrev pub bit : Bool → ℕ → ℕ
 bit b value = if b then value else 0
 
--- whether a domain has notifications for an agent: it has none where the platform can't send to the agent (own)
+-- whether a domain has notifications for an agent: it has none where the platform can't send to the
+-- agent (own)
 abbrev pub has_notifications : AgentChannel → Domain → Bool
 has_notifications channel row = not channel.one_way && row.notify
 
--- whether a domain has asynchronous sets for an agent: it has none where the platform can't send to the agent (own)
+-- whether a domain has asynchronous sets for an agent: it has none where the platform can't send to
+-- the agent (own)
 abbrev pub has_asynchronous : AgentChannel → Domain → Bool
 has_asynchronous channel row = not channel.one_way && row.asynchronous
 
 -- a domain's attributes for an agent: bit 31 notifications, 30 asynchronous, 29 synchronous sets
 abbrev pub attributes : AgentChannel → Domain → ℕ
 attributes channel row =
-    bit (has_notifications channel row) 0x80000000 + bit (has_asynchronous channel row) 0x40000000 + bit row.synchronous 0x20000000
+    bit (has_notifications channel row) 0x80000000 + bit (has_asynchronous channel row) 0x40000000
+    + bit row.synchronous 0x20000000
 
 -- whether a domain has asynchronous sets for an agent, or synchronous ones
 abbrev pub supports : AgentChannel → Domain → Bool → Bool
-supports channel row asynchronous = if asynchronous then has_asynchronous channel row else row.synchronous
+supports channel row asynchronous = if asynchronous then has_asynchronous channel row
+    else row.synchronous
 
 -- whether a domain has sets of the kind that the flags ask for
 abbrev pub has_kind : AgentChannel → Domain → ℕ → Bool
@@ -72,7 +76,8 @@ message_reply message = reply_unless ((not (is_listed 0x11 message), NotFound) �
 -- the reply to 0x3: a domain's attributes for the caller, and its name
 abbrev pub domain_reply : Board → AgentChannel → ℕ → List ℕ
 domain_reply board channel d =
-    reply_unless ((no_domain board d, NotFound) ∷ []) (0 ∷ attributes channel (domain_at board d) ∷ name_words (domain_at board d).name)
+    reply_unless ((no_domain board d, NotFound) ∷ [])
+    (0 ∷ attributes channel (domain_at board d) ∷ name_words (domain_at board d).name)
 
 -- whether a set would switch off a domain that its board keeps (own)
 abbrev pub switches_kept_off : Board → (d state : ℕ) → Bool
@@ -82,8 +87,8 @@ switches_kept_off board d state = is_kept board (resource.Domain d) && state == 
 unfoldable pub may_set : Board → (may : Bool) → (d state : ℕ) → Bool
 may_set board may d state = may && not (switches_kept_off board d state)
 
--- the reply to 0x4 (own order of checks), by what the caller's channels are, whether the caller may make the change, whether the domain has a pending
--- set, and whether an asynchronous set has room
+-- the reply to 0x4 (own order of checks), by what the caller's channels are, whether the caller may
+-- make the change, whether the domain has a pending set, and whether an asynchronous set has room
 abbrev pub set_reply : Board → AgentChannel → (may busy room : Bool) → (flags d state : ℕ) → List ℕ
 set_reply board channel may busy room flags d state =
     reply_unless (
@@ -99,8 +104,8 @@ set_reply board channel may busy room flags d state =
 abbrev pub get_reply : Board → (d state : ℕ) → List ℕ
 get_reply board d state = reply_unless ((no_domain board d, NotFound) ∷ []) (0 ∷ state ∷ [])
 
--- the reply to 0x6 (own order of checks), by what the caller's channels are, and whether the caller may change the
--- domain
+-- the reply to 0x6 (own order of checks), by what the caller's channels are, and whether the caller
+-- may change the domain
 abbrev pub notify_reply : Board → AgentChannel → (may : Bool) → (d enable : ℕ) → List ℕ
 notify_reply board channel may d enable =
     reply_unless (
@@ -117,6 +122,7 @@ power_reply board v power.Version = 0 ∷ 0x00020000 ∷ []
 power_reply board v power.Attributes = 0 ∷ length board.domains ∷ 0 ∷ 0 ∷ 0 ∷ []
 power_reply board v (power.MessageAttributes message) = message_reply message
 power_reply board v (power.DomainAttributes d) = domain_reply board v.channel d
-power_reply board v (power.Set flags d state) = set_reply board v.channel (may_set board (v.may d) d state) (v.busy d) v.room flags d state
+power_reply board v (power.Set flags d state) =
+    set_reply board v.channel (may_set board (v.may d) d state) (v.busy d) v.room flags d state
 power_reply board v (power.Get d) = get_reply board d (v.state d)
 power_reply board v (power.Notify d enable) = notify_reply board v.channel (v.may d) d enable

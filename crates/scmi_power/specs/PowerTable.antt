@@ -41,7 +41,8 @@ state_at_start board d = starting_state (domain_at board d)
 
 -- whether a caller may change a domain, by a table of permissions
 abbrev pub may_change : Board → Permissions → (caller d : ℕ) → Bool
-may_change board permissions caller d = may board (λ device. is_allowed permissions caller device) (resource.Domain d)
+may_change board permissions caller d =
+    may board (λ device. is_allowed permissions caller device) (resource.Domain d)
 
 -- whether a domain has a pending set
 abbrev pub is_busy : Load → ℕ → Bool
@@ -60,7 +61,8 @@ view_of board permissions table load caller =
 
 -- the reply to a caller's command, by the permissions, the table, and what pending sets leave free
 abbrev pub reply_to : Board → Permissions → PowerTables → Load → ℕ → PowerCommand → List ℕ
-reply_to board permissions table load caller command = power_reply board (view_of board permissions table load caller) command
+reply_to board permissions table load caller command =
+    power_reply board (view_of board permissions table load caller) command
 
 -- the domain and state that a successful command sets at once
 abbrev pub set_now : PowerCommand → Option (ℕ × ℕ)
@@ -79,7 +81,8 @@ set_domain _ = None
 
 -- what a caller's successful command says about the subscription of agent a to domain d
 abbrev pub notification : ℕ → ℕ → ℕ → PowerCommand → Option Bool
-notification a d caller (power.Notify domain enable) = if caller == a && domain == d then Some (bit_0 enable) else None
+notification a d caller (power.Notify domain enable) = if caller == a && domain == d
+    then Some (bit_0 enable) else None
 notification a d caller _ = None
 
 -- a domain's state after a set, if there is one
@@ -96,11 +99,13 @@ only_reads _ = true
 -- the reply to a caller's set, by the permissions and by what pending sets leave free
 abbrev pub set_words : Board → Permissions → ℕ → Load → (flags d state : ℕ) → List ℕ
 set_words board permissions caller load flags d state =
-    set_reply board (channel_of board caller) (may_set board (may_change board permissions caller d) d state) (is_busy load d) load.room flags d state
+    set_reply board (channel_of board caller) (may_set board
+    (may_change board permissions caller d) d state) (is_busy load d) load.room flags d state
 
 -- the reply to a caller's request for notifications, by the permissions
 abbrev pub notify_words : Board → Permissions → ℕ → (d enable : ℕ) → List ℕ
-notify_words board permissions caller d enable = notify_reply board (channel_of board caller) (may_change board permissions caller d) d enable
+notify_words board permissions caller d enable =
+    notify_reply board (channel_of board caller) (may_change board permissions caller d) d enable
 
 -- the states of a table after a set, if there is one
 abbrev pub HasSet : Option (ℕ × ℕ) → PowerTables → PowerTables → Type 0
@@ -110,7 +115,8 @@ HasSet set table after = (d : ℕ) → d < DOMAINS → state_at after d ≡ set_
 abbrev pub HasNotified : List ℕ → ℕ → PowerCommand → PowerTables → PowerTables → Type 0
 HasNotified words caller command table after =
     (a d : ℕ) → 1 ≤ a → a ≤ AGENTS → d < DOMAINS
-    → is_subscribed after a d ≡ unwrap_or (if_success words (notification a d caller command)) (is_subscribed table a d)
+    → is_subscribed after a d
+    ≡ unwrap_or (if_success words (notification a d caller command)) (is_subscribed table a d)
 
 -- the domain of a set, if there is one, is the board's
 abbrev pub IsKnown : Board → Option (ℕ × ℕ) → Type 0

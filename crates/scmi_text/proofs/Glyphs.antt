@@ -10,7 +10,8 @@ abbrev all_are : List ℕ → ℕ → Bool
 all_are table zero = true
 all_are table (suc n) = (get_or table n 0 == digit_glyph false n) && all_are table n
 
-are_at : (table : List ℕ) (n d : ℕ) → all_are table n ≡ true → d < n → get_or table d 0 ≡ digit_glyph false d
+are_at : (table : List ℕ) (n d : ℕ) → all_are table n ≡ true → d < n
+    → get_or table d 0 ≡ digit_glyph false d
 are_at table zero d all below = absurd (omega arith)
 are_at table (suc n) d all below =
     let parts = and_parts (get_or table n 0 == digit_glyph false n) (all_are table n) all in

@@ -13,7 +13,8 @@ abbrev pub line_text : ℕ → Line → List ℕ
 line_text agent (Got payload) = filled GOT.now (decimal agent ∷ words_text payload.items ∷ [])
 line_text agent Error = filled ERROR.now (decimal agent ∷ [])
 line_text agent Closed = filled CLOSED.now (decimal agent ∷ [])
-line_text agent (NotPosted refusal) = filled NOT_POSTED.now (decimal agent ∷ refusal_text refusal ∷ [])
+line_text agent (NotPosted refusal) =
+    filled NOT_POSTED.now (decimal agent ∷ refusal_text refusal ∷ [])
 line_text agent Limit = filled LIMIT.now (decimal agent ∷ [])
 line_text agent UntilOk = filled UNTIL_OK.now (decimal agent ∷ [])
 line_text agent UntilLimit = filled UNTIL_LIMIT.now (decimal agent ∷ [])

@@ -64,27 +64,32 @@ with_script scripts agent =
 -- one more order in the last script; none where there is no script
 unfoldable pub with_order : List AgentScript → Order → Option (List AgentScript)
 with_order [] order = None
-with_order (script ∷ []) order = Some (record { agent = script.agent; orders = script.orders ++ order ∷ [] } ∷ [])
+with_order (script ∷ []) order =
+    Some (record { agent = script.agent; orders = script.orders ++ order ∷ [] } ∷ [])
 with_order (script ∷ next ∷ scripts) order = do
   later ← with_order (next ∷ scripts) order
   Some (script ∷ later)
 
 -- the scripts with what follows the first word of a line
 unfoldable pub with_form : ℕ → List AgentScript → ScriptForm → ItemsView → Option (List AgentScript)
-with_form agents scripts script.Script view = agent_at agents view >>= λ agent. with_script scripts agent
-with_form agents scripts (script.Order form) view = order_at form view >>= λ order. with_order scripts order
+with_form agents scripts script.Script view =
+    agent_at agents view >>= λ agent. with_script scripts agent
+with_form agents scripts (script.Order form) view =
+    order_at form view >>= λ order. with_order scripts order
 
 -- the forms of the lines of scripts, by their first words
 abbrev pub script_forms : List (WordRow (List ℕ) ScriptForm)
 script_forms = map (λ row. record { word = row.word.now; form = row.form }) SCRIPT_FORMS
 
--- the scripts with a line; none where no script on a board with this number of agents has such a line
+-- the scripts with a line; none where no script on a board with this number of agents has such a
+-- line
 unfoldable pub with_line : ℕ → List AgentScript → List ℕ → Option (List AgentScript)
 with_line agents scripts text = do
   word ← first_item (items_left text)
   form ← form_in word.0 script_forms
   with_form agents scripts form word.1
 
--- the scripts of the lines that are left, in the order of their first lines; else the number of the first invalid line
+-- the scripts of the lines that are left, in the order of their first lines; else the number of the
+-- first invalid line
 abbrev pub scripts_left : ℕ → LinesView → Result (List AgentScript) ℕ
 scripts_left agents lines = after_lines (with_line agents) [] (lines_left lines)

@@ -11,7 +11,8 @@ use Rattle.scmi_text.specs.declared.step_head.Head.TheVariants.{Do, Call, Raw, M
 
 -- the command of a protocol, a message id and these payload words
 abbrev pub call_with : ℕ → ℕ → List ℕ → CallOf
-call_with protocol id words = record { protocol = protocol; message = id; payload = record { items = words } }
+call_with protocol id words =
+    record { protocol = protocol; message = id; payload = record { items = words } }
 
 -- the message of a header word and these payload words
 abbrev pub raw_with : ℕ → List ℕ → Message

@@ -15,7 +15,8 @@ use Rattle.scmi_text.specs.declared.lines.TheConstants.{ADVANCED, ADVANCE_FAILED
 -- what an agent collected, as a line
 abbrev pub collected_text : ℕ → Collected → List ℕ
 collected_text agent Nothing = filled NOT_ANSWERED.now (decimal agent ∷ [])
-collected_text agent (Got (Reply message)) = filled REPLY.now (decimal agent ∷ message_text message ∷ [])
+collected_text agent (Got (Reply message)) =
+    filled REPLY.now (decimal agent ∷ message_text message ∷ [])
 collected_text agent (Got Released) = filled RELEASED.now (decimal agent ∷ [])
 collected_text agent (Got ChannelError) = filled ERROR.now (decimal agent ∷ [])
 collected_text agent CollectedClosed = filled CLOSED.now (decimal agent ∷ [])
@@ -34,7 +35,8 @@ p2a_text agent (Some frame) = frame_text agent frame
 abbrev pub step_text : StepLine → List ℕ
 step_text (Token agent token) = filled TOKEN.now (decimal agent ∷ decimal token ∷ [])
 step_text (Posted agent) = filled POSTED.now (decimal agent ∷ [])
-step_text (NotPosted agent refusal) = filled NOT_POSTED.now (decimal agent ∷ refusal_text refusal ∷ [])
+step_text (NotPosted agent refusal) =
+    filled NOT_POSTED.now (decimal agent ∷ refusal_text refusal ∷ [])
 step_text (Served agent served) = filled SERVED.now (decimal agent ∷ served_text served ∷ [])
 step_text (StepCollected agent collected) = collected_text agent collected
 step_text (Advanced more) = filled ADVANCED.now (advanced_text more ∷ [])

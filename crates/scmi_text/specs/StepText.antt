@@ -28,7 +28,8 @@ use Rattle.scmi_text.specs.declared.step_form.TheConstants.{FAILED, REFUSED, REP
 use Rattle.scmi_text.specs.declared.step_kinds.StepKinds.{StepKinds}
 use Rattle.scmi_text.specs.declared.step_kinds.StepKinds.TheVariants.{WithoutHardware, All}
 
--- a line beside hardware, which refuses or reports, or of a restart, is one of a script that may have such lines
+-- a line beside hardware, which refuses or reports, or of a restart, is one of a script that may
+-- have such lines
 abbrev pub with_hardware : StepKinds → Option (Unit {0})
 with_hardware WithoutHardware = None
 with_hardware All = Some tt
@@ -50,7 +51,8 @@ advance_head kinds view = elim (no_item view) [
     Some (AdvanceFailed fault.0, fault.1))
 ]
 
--- what hardware reports, by its form: a change as D W, C LOW HIGH or C B; the place of the set that ends first; or the rate that a clock gets, as C LOW HIGH
+-- what hardware reports, by its form: a change as D W, C LOW HIGH or C B; the place of the set that
+-- ends first; or the rate that a clock gets, as C LOW HIGH
 unfoldable pub report_of : ReportForm → ItemsView → Option (ReportOf × ItemsView)
 report_of report.State view = do
   domain ← first_number 32 view
@@ -164,9 +166,11 @@ has_payload _ = false
 
 -- the payload words of a step with this head, or nothing where it has none
 unfoldable pub payload_of : Head → ItemsView → Option (List ℕ)
-payload_of head view = if has_payload head then payload_left view else no_item view >>= λ end. Some []
+payload_of head view = if has_payload head then payload_left view
+    else no_item view >>= λ end. Some []
 
--- the step of a line; none where the line is no step of these kinds, or of an agent that the board lacks
+-- the step of a line; none where the line is no step of these kinds, or of an agent that the board
+-- lacks
 unfoldable pub step_of_line : StepKinds → ℕ → List ℕ → Option Step
 step_of_line kinds agents text = do
   head ← first_head kinds agents (items_left text)

@@ -1,4 +1,5 @@
--- What each call of a round adds to the history: no restart, no promotion, no settling and no report, and beside hardware that never refuses a plain event.
+-- What each call of a round adds to the history: no restart, no promotion, no settling and no
+-- report, and beside hardware that never refuses a plain event.
 use Rattle.std.proofs.Common.{◌≡◌, inl, inr, ℕ, Bool, true, false, List, [], ◌∷◌, ◌++◌, refl, sym, subst}
 use Rattle.std.specs.Prelude.{IsTrue}
 use Rattle.std.specs.List.{All}
@@ -50,27 +51,41 @@ end_of_rounds e (inr (fault, is)) = subst IsOfRounds (sym is) tt
 
 -- serving an agent
 
-one_served_of_rounds : (board : Board) (a : ℕ) (h h' : List Event) (b b' : List Asked → Type 0) (v w : CalleeView) (r : Served) → ServesOneOn board a h b v r h' b' w → All IsOfRounds h → All IsOfRounds h'
-one_served_of_rounds board a h h' b b' v w served.Nothing s all = subst (All IsOfRounds) (sym s.0) all
+one_served_of_rounds : (board : Board) (a : ℕ) (h h' : List Event) (b b' : List Asked → Type 0)
+    (v w : CalleeView) (r : Served) → ServesOneOn board a h b v r h' b' w → All IsOfRounds h
+    → All IsOfRounds h'
+one_served_of_rounds board a h h' b b' v w served.Nothing s all =
+    subst (All IsOfRounds) (sym s.0) all
 one_served_of_rounds board a h h' b b' v w served.Done s all =
     let happens = s.executes.happens in
-    one_more_event IsOfRounds h h' happens.event happens.history (command_of_rounds a s.frame happens.event happens.is_one) all
+    one_more_event IsOfRounds h h' happens.event happens.history
+    (command_of_rounds a s.frame happens.event happens.is_one) all
 
-pub served_of_rounds : (a : ℕ) (c : ControllerView) (b : List Asked → Type 0) (r : Served) (c' : ControllerView) (b' : List Asked → Type 0) → ServesOn a c b r c' b' → All IsOfRounds c.history → All IsOfRounds c'.history
-served_of_rounds a c b r c' b' s all = one_served_of_rounds c.board a c.history c'.history b b' (callee_of c a) s.callee r s.step all
+pub served_of_rounds : (a : ℕ) (c : ControllerView) (b : List Asked → Type 0)
+    (r : Served) (c' : ControllerView) (b' : List Asked → Type 0) → ServesOn a c b r c' b'
+    → All IsOfRounds c.history → All IsOfRounds c'.history
+served_of_rounds a c b r c' b' s all =
+    one_served_of_rounds c.board a c.history c'.history b b' (callee_of c a) s.callee r s.step all
 
 -- ending a pending set
 
-pub advanced_of_rounds : (did : Bool) (board : Board) (h h' : List Event) (b b' : List Asked → Type 0) → (IsTrue did → HappensOn board IsEnd h b h' b') → (¬ (IsTrue did) → h' ≡ h) → All IsOfRounds h → All IsOfRounds h'
+pub advanced_of_rounds : (did : Bool) (board : Board) (h h' : List Event)
+    (b b' : List Asked → Type 0) → (IsTrue did → HappensOn board IsEnd h b h' b')
+    → (¬ (IsTrue did) → h' ≡ h) → All IsOfRounds h → All IsOfRounds h'
 advanced_of_rounds true board h h' b b' happens same all =
     let one = happens refl in
     one_more_event IsOfRounds h h' one.event one.history (end_of_rounds one.event one.is_one) all
-advanced_of_rounds false board h h' b b' happens same all = subst (All IsOfRounds) (sym (same (λ never. cc))) all
+advanced_of_rounds false board h h' b b' happens same all =
+    subst (All IsOfRounds) (sym (same (λ never. cc))) all
 
-pub advanced_plain : (did : Bool) (h h' : List Event) → (IsTrue did → h' ≡ h ++ Advance ∷ []) → (¬ (IsTrue did) → h' ≡ h) → All IsPlain h → All IsPlain h'
+pub advanced_plain : (did : Bool) (h h' : List Event) → (IsTrue did → h' ≡ h ++ Advance ∷ [])
+    → (¬ (IsTrue did) → h' ≡ h) → All IsPlain h → All IsPlain h'
 advanced_plain true h h' event same all = one_more_event IsPlain h h' Advance (event refl) tt all
 advanced_plain false h h' event same all = subst (All IsPlain) (sym (same (λ never. cc))) all
 
--- the rounds of a whole run, which begin with no event, of which the history at the end has another name
-pub all_of_run : (P : Event → Type 0) (h h' k : List Event) → h ≡ [] → k ≡ h' → (All P h → All P h') → All P k
-all_of_run P h h' k none is goes = subst (All P) (sym is) (goes (subst (All P) (sym none) (All-nil P)))
+-- the rounds of a whole run, which begin with no event, of which the history at the end has another
+-- name
+pub all_of_run : (P : Event → Type 0) (h h' k : List Event) → h ≡ [] → k ≡ h'
+    → (All P h → All P h') → All P k
+all_of_run P h h' k none is goes =
+    subst (All P) (sym is) (goes (subst (All P) (sym none) (All-nil P)))

@@ -22,8 +22,10 @@ SaysNothing line.UntilLimit = Unit {0}
 SaysNothing (line.Close closing) = closing ≡ Idle
 SaysNothing _ = ⊥
 
--- the orders up to the close wrote all that was posted, read and taken, and the commands executed are those that they posted; each further line says that nothing came of its order
-pub record IsDoneAtClose (full : Bool) (orders : List Order) (h : List Event) (a : ℕ) (log : AgentLog) : Type 0 where
+-- the orders up to the close wrote all that was posted, read and taken, and the commands executed
+-- are those that they posted; each further line says that nothing came of its order
+pub record IsDoneAtClose (full : Bool) (orders : List Order) (h : List Event) (a : ℕ)
+    (log : AgentLog) : Type 0 where
   pub parts : List Part
   pub follows : Follows full false 0 (up_to_close orders) None parts
   pub posted : log.posted.items ≡ flat_map (λ part. part.posted) parts

@@ -56,12 +56,17 @@ pub record LogHeadline (board : Board) (h : List Event) (a : ℕ) (log : AgentLo
   -- each answer that was read is the one at that command's place
   pub replies : IsPrefixOf log.read.items (answers_to board a h)
   -- a command that was withdrawn was not executed; each other one was, and its answer was read
-  pub withdrawn : log.closing ≡ Some Withdrawn → IsAllButLast (frames_of a h) log.posted.items × (log.read.items ≡ answers_to board a h)
-  -- after a close with nothing outstanding no command was given up: each was executed, and its answer was read
-  pub idle : log.closing ≡ Some Idle → (frames_of a h ≡ log.posted.items) × (log.read.items ≡ answers_to board a h)
+  pub withdrawn : log.closing ≡ Some Withdrawn → IsAllButLast (frames_of a h) log.posted.items
+      × (log.read.items ≡ answers_to board a h)
+  -- after a close with nothing outstanding no command was given up: each was executed, and its
+  -- answer was read
+  pub idle : log.closing ≡ Some Idle
+      → (frames_of a h ≡ log.posted.items) × (log.read.items ≡ answers_to board a h)
   -- the messages that were taken are those delivered, at most the last left out
-  pub taken : (log.p2a.items ≡ map Good (delivered_messages board a h)) ⊎ IsAllButLast log.p2a.items (map Good (delivered_messages board a h))
-  -- what was made for the agent is what it took, then at most one message not taken, then its outbox
+  pub taken : (log.p2a.items ≡ map Good (delivered_messages board a h))
+      ⊎ IsAllButLast log.p2a.items (map Good (delivered_messages board a h))
+  -- what was made for the agent is what it took, then at most one message not taken, then its
+  -- outbox
   pub made : IsAllMade board h a log.p2a.items
   -- the lines show the messages that were taken
   pub messages : messages_of log.lines.items ≡ log.p2a.items

@@ -22,7 +22,8 @@ use Rattle.scmi_threads.specs.declared.limits.TheConstants.{TURNS}
 use Rattle.scmi_threads.specs.declared.stop.Stop.{Stop}
 use Rattle.scmi_threads.specs.declared.stop.Stop.TheVariants as stop
 
--- what a command is answered: a reply, or a channel error if it has more words than the shortest channel
+-- what a command is answered: a reply, or a channel error if it has more words than the shortest
+-- channel
 abbrev pub IsAnswerTo : Frame → Answer → Type 0
 IsAnswerTo frame (Reply m) = Unit {0}
 IsAnswerTo (Good m) ChannelError = LEAST_CHANNEL_WORDS < length m.payload.items
@@ -32,7 +33,8 @@ IsAnswerTo _ _ = ⊥
 abbrev pub AreAnswersTo : List Frame → List Answer → Type 0
 AreAnswersTo frames [] = Unit {0}
 AreAnswersTo [] (answer ∷ answers) = Unit {0}
-AreAnswersTo (frame ∷ frames) (answer ∷ answers) = IsAnswerTo frame answer × AreAnswersTo frames answers
+AreAnswersTo (frame ∷ frames) (answer ∷ answers) = IsAnswerTo frame answer
+    × AreAnswersTo frames answers
 
 -- nothing has disturbed the agent: it was notified of no close, and each answer that it read is one
 -- to its command
@@ -53,12 +55,15 @@ pub record LeavesRest (old new : CallerView) (before after : AgentLog) : Type 0 
 
 -- a wait for the answer to a command, by its line: a reply or a channel error was read, or nothing
 abbrev pub HasAwaited : Frame → Line → List Answer → List Answer → Type 0
-HasAwaited command (line.Got words) old new = (reply : Message) × (words ≡ reply.payload) × (new ≡ old ++ Reply reply ∷ [])
-HasAwaited command line.Error old new = IsAnswerTo command ChannelError × (new ≡ old ++ ChannelError ∷ [])
+HasAwaited command (line.Got words) old new = (reply : Message) × (words ≡ reply.payload)
+    × (new ≡ old ++ Reply reply ∷ [])
+HasAwaited command line.Error old new = IsAnswerTo command ChannelError
+    × (new ≡ old ++ ChannelError ∷ [])
 HasAwaited command line.Limit old new = new ≡ old
 HasAwaited command _ old new = ⊥
 
--- how many polls a wait for an answer had, by its line: TURNS if they ran out, else those of a wait that was answered
+-- how many polls a wait for an answer had, by its line: TURNS if they ran out, else those of a wait
+-- that was answered
 abbrev pub AreLooksBy : Line → ℕ → Type 0
 AreLooksBy line.Limit looks = looks ≡ TURNS
 AreLooksBy _ looks = AreLooksOf 1 looks
@@ -69,16 +74,22 @@ pub record HasWaited (line : Line) (before after : AgentLog) : Type 0 where
   pub many : AreLooksBy line looks
   pub counted : after.reply_looks ≡ more_calls looks before.reply_looks
 
--- what a post can be refused for: the script has closed, or it has not and the kind of channel may have no place
+-- what a post can be refused for: the script has closed, or it has not and the kind of channel may
+-- have no place
 abbrev pub IsRefusal : Bool → Bool → PostError → Type 0
 IsRefusal full closed post.Closed = closed ≡ true
 IsRefusal full closed post.Full = (closed ≡ false) × (full ≡ true)
 IsRefusal full closed _ = ⊥
 
--- a call of a command, by its line: it was refused, without a poll, or the script had not closed, and it was posted and waited for
+-- a call of a command, by its line: it was refused, without a poll, or the script had not closed,
+-- and it was posted and waited for
 abbrev pub HasAsked : Bool → Bool → Frame → Line → AgentLog → AgentLog → Type 0
-HasAsked full closed command (line.NotPosted error) before after = IsRefusal full closed error × (after.posted.items ≡ before.posted.items) × (after.read.items ≡ before.read.items) × (after.reply_looks ≡ before.reply_looks)
-HasAsked full closed command line before after = (closed ≡ false) × (after.posted.items ≡ before.posted.items ++ command ∷ []) × HasAwaited command line before.read.items after.read.items × HasWaited line before after
+HasAsked full closed command (line.NotPosted error) before after = IsRefusal full closed error
+    × (after.posted.items ≡ before.posted.items) × (after.read.items ≡ before.read.items)
+    × (after.reply_looks ≡ before.reply_looks)
+HasAsked full closed command line before after =
+    (closed ≡ false) × (after.posted.items ≡ before.posted.items ++ command ∷ [])
+    × HasAwaited command line before.read.items after.read.items × HasWaited line before after
 
 -- the line reports a reply
 abbrev pub IsGot : Line → Type 0
@@ -97,12 +108,14 @@ ending _ = Ok tt
 
 -- this many calls asked for the state of a domain, none of them after the script's close, and none
 -- of the replies had the state
-pub record HasAskedFor (closed : Bool) (domain state count : ℕ) (before after : AgentLog) : Type 0 where
+pub record HasAskedFor (closed : Bool) (domain state count : ℕ)
+    (before after : AgentLog) : Type 0 where
   pub others : List Message
   pub many : length others ≡ count
   pub unclosed : closed ≡ true → count ≡ 0
   pub none_has_it : All (λ reply. ¬ (HasState state reply)) others
-  pub posted : after.posted.items ≡ before.posted.items ++ state_commands (length before.posted.items) domain count
+  pub posted : after.posted.items
+      ≡ before.posted.items ++ state_commands (length before.posted.items) domain count
   pub read : after.read.items ≡ before.read.items ++ map Reply others
   pub looks : ℕ
   pub of_each : AreLooksOf count looks
@@ -121,9 +134,11 @@ lines_of_seen (Ok false) = line.UntilLimit ∷ []
 lines_of_seen (Err why) = []
 
 -- what asking for a state until it is seen leaves, without the line
-pub record HasLooked (full closed : Bool) (domain state : ℕ) (seen : Result Bool Stop) (before after : AgentLog) : Type 0 where
+pub record HasLooked (full closed : Bool) (domain state : ℕ) (seen : Result Bool Stop)
+    (before after : AgentLog) : Type 0 where
   pub part : Part
-  pub writes : Writes full closed (length before.posted.items) (order.Until domain state) (stop_of_seen seen) part
+  pub writes : Writes full closed (length before.posted.items) (order.Until domain state)
+      (stop_of_seen seen) part
   pub posted : after.posted.items ≡ before.posted.items ++ part.posted
   pub read : after.read.items ≡ before.read.items ++ part.read
   pub lines : part.lines ≡ lines_of_seen seen
@@ -149,7 +164,8 @@ pub record TakesOne (closed : Bool) (before after : AgentLog) : Type 0 where
   pub taken : after.p2a.items ≡ before.p2a.items ++ message ∷ []
   pub lines : after.lines.items ≡ before.lines.items ++ line.P2a message ∷ []
 
--- the polls of a wait for a message, by how it ended: those of one that was answered, TURNS if they ran out, none if memory was refused
+-- the polls of a wait for a message, by how it ended: those of one that was answered, TURNS if they
+-- ran out, none if memory was refused
 abbrev pub AreLooksFor : Result (Unit {0}) Stop → ℕ → Type 0
 AreLooksFor (Ok done) looks = AreLooksOf 1 looks
 AreLooksFor (Err stop.Limit) looks = looks ≡ TURNS
@@ -164,8 +180,10 @@ pub record HasLookedFor (result : Result (Unit {0}) Stop) (before after : AgentL
 -- one more message was taken, or none: the polls ran out, or memory was refused
 abbrev pub HasTaken : Bool → Result (Unit {0}) Stop → AgentLog → AgentLog → Type 0
 HasTaken closed (Ok done) before after = TakesOne closed before after
-HasTaken closed (Err stop.Limit) before after = (after.p2a.items ≡ before.p2a.items) × (after.lines.items ≡ before.lines.items ++ line.Limit ∷ [])
-HasTaken closed (Err stop.Memory) before after = (after.p2a.items ≡ before.p2a.items) × (after.lines.items ≡ before.lines.items)
+HasTaken closed (Err stop.Limit) before after = (after.p2a.items ≡ before.p2a.items)
+    × (after.lines.items ≡ before.lines.items ++ line.Limit ∷ [])
+HasTaken closed (Err stop.Memory) before after = (after.p2a.items ≡ before.p2a.items)
+    × (after.lines.items ≡ before.lines.items)
 
 -- the log has this part more
 pub record HasMore (part : Part) (before after : AgentLog) : Type 0 where
@@ -177,7 +195,8 @@ pub record HasMore (part : Part) (before after : AgentLog) : Type 0 where
   pub message_looks : after.message_looks ≡ more_calls part.message_looks before.message_looks
 
 -- an order was carried out, and wrote its part
-pub record HasDone (full : Bool) (order : Order) (stopped : Option Stop) (old new : CallerView) (before after : AgentLog) : Type 0 where
+pub record HasDone (full : Bool) (order : Order) (stopped : Option Stop) (old new : CallerView)
+    (before after : AgentLog) : Type 0 where
   pub part : Part
   pub writes : Writes full old.closed (length before.posted.items) order stopped part
   pub more : HasMore part before after

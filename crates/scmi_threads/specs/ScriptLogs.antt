@@ -7,11 +7,17 @@ use Rattle.scmi_threads.specs.Parts.{Part, Writes}
 use Rattle.scmi_threads.specs.declared.agent_log.AgentLog.{AgentLog}
 use Rattle.scmi_threads.specs.declared.stop.Stop.{Stop}
 
--- the orders wrote these parts, one after another: all of them, or those up to the one that ended the script
+-- the orders wrote these parts, one after another: all of them, or those up to the one that ended
+-- the script
 pub data Follows (full : Bool) : Bool → ℕ → List Order → Option Stop → List Part → Type 0 where
   all_done : (closed : Bool) (n : ℕ) → Follows full closed n [] None []
-  ends_here : (closed : Bool) (n : ℕ) (order : Order) (orders : List Order) (why : Stop) (part : Part) → Writes full closed n order (Some why) part → Follows full closed n (order ∷ orders) (Some why) (part ∷ [])
-  goes_on : (closed : Bool) (n : ℕ) (order : Order) (orders : List Order) (stopped : Option Stop) (part : Part) (parts : List Part) → Writes full closed n order None part → Follows full (is_close order || closed) (n + length part.posted) orders stopped parts → Follows full closed n (order ∷ orders) stopped (part ∷ parts)
+  ends_here : (closed : Bool) (n : ℕ) (order : Order)
+      (orders : List Order) (why : Stop) (part : Part) → Writes full closed n order (Some why) part
+      → Follows full closed n (order ∷ orders) (Some why) (part ∷ [])
+  goes_on : (closed : Bool) (n : ℕ) (order : Order) (orders : List Order) (stopped : Option Stop)
+      (part : Part) (parts : List Part) → Writes full closed n order None part
+      → Follows full (is_close order || closed) (n + length part.posted) orders stopped parts
+      → Follows full closed n (order ∷ orders) stopped (part ∷ parts)
 
 -- the log is these parts, one after another, and counts their polls modulo 2^64
 pub record IsMadeOf (parts : List Part) (log : AgentLog) : Type 0 where
@@ -22,7 +28,8 @@ pub record IsMadeOf (parts : List Part) (log : AgentLog) : Type 0 where
   pub reply_looks : log.reply_looks ≡ sum_by (λ part. part.reply_looks) parts % 2 ^ 64
   pub message_looks : log.message_looks ≡ sum_by (λ part. part.message_looks) parts % 2 ^ 64
 
--- the log follows the script: each order, in turn, wrote a part of it, and all of them if the script was not stopped
+-- the log follows the script: each order, in turn, wrote a part of it, and all of them if the
+-- script was not stopped
 pub record IsScriptLog (full : Bool) (orders : List Order) (log : AgentLog) : Type 0 where
   pub parts : List Part
   pub made : IsMadeOf parts log
@@ -33,6 +40,7 @@ abbrev pub line_number : ℕ → ℕ
 line_number k = min (k + 1) (2 ^ 32 - 1)
 
 -- the log follows the script, and the gate was asked before each line of it that was begun
-pub record IsGatedLog (full : Bool) (asked : ℕ → Type 0) (orders : List Order) (log : AgentLog) : Type 0 where
+pub record IsGatedLog (full : Bool) (asked : ℕ → Type 0) (orders : List Order)
+    (log : AgentLog) : Type 0 where
   pub script : IsScriptLog full orders log
   pub gate : (k : ℕ) → k < length script.parts → asked (line_number k)

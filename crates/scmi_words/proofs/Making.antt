@@ -17,14 +17,17 @@ fresh_zero : (i : ℕ) → i < length fresh_words → get_or fresh_words i 0 ≡
 unfolding fresh_words
 fresh_zero i lt = get_or-replicate (TABLE_WORDS - LENGTH) i 0 0 (omega arith)
 
-pub starts : (words : List ℕ) → length words ≡ TABLE_WORDS → get_or words 0 0 ≡ 1 → ((i : ℕ) → 0 < i → get_or words i 0 ≡ 0) → HalvesAgree (opening words [] first_view)
+pub starts : (words : List ℕ) → length words ≡ TABLE_WORDS → get_or words 0 0 ≡ 1
+    → ((i : ℕ) → 0 < i → get_or words i 0 ≡ 0) → HalvesAgree (opening words [] first_view)
 starts words wide free zeros = record {
   caller = first_caller;
   callee = first_callee;
   caller_seat = 0;
   callee_seat = 0;
-  caller_at = λ i v h e has. (sym (ap caller_or (ap (λ (u : View). u.caller) (only i v e).0 ∙ has)), (only i v e).1);
-  callee_at = λ i v h e has. (sym (ap callee_or (ap (λ (u : View). u.callee) (only i v e).0 ∙ has)), (only i v e).1);
+  caller_at = λ i v h e has.
+      (sym (ap caller_or (ap (λ (u : View). u.caller) (only i v e).0 ∙ has)), (only i v e).1);
+  callee_at = λ i v h e has.
+      (sym (ap callee_or (ap (λ (u : View). u.callee) (only i v e).0 ∙ has)), (only i v e).1);
   rule = record {
     wide = wide;
     flags = zeros 1 (omega arith);
@@ -41,10 +44,14 @@ starts words wide free zeros = record {
       valid = λ x e. absurd (let f : None ≡ Some x = e in cc);
       valid_frame = λ x e. absurd (let f : None ≡ Some x = e in cc);
     };
-    caller_told = λ e. absurd (let f : Rattle.std.proofs.Common.false ≡ Rattle.std.proofs.Common.true = e in cc);
-    callee_told = λ e. absurd (let f : Rattle.std.proofs.Common.false ≡ Rattle.std.proofs.Common.true = e in cc);
-    caller_final = λ e. absurd (let f : Rattle.std.proofs.Common.false ≡ Rattle.std.proofs.Common.true = e in cc);
-    callee_final = λ e. absurd (let f : Rattle.std.proofs.Common.false ≡ Rattle.std.proofs.Common.true = e in cc);
+    caller_told = λ e. absurd
+        (let f : Rattle.std.proofs.Common.false ≡ Rattle.std.proofs.Common.true = e in cc);
+    callee_told = λ e. absurd
+        (let f : Rattle.std.proofs.Common.false ≡ Rattle.std.proofs.Common.true = e in cc);
+    caller_final = λ e. absurd
+        (let f : Rattle.std.proofs.Common.false ≡ Rattle.std.proofs.Common.true = e in cc);
+    callee_final = λ e. absurd
+        (let f : Rattle.std.proofs.Common.false ≡ Rattle.std.proofs.Common.true = e in cc);
     shown = (omega arith, omega arith);
   };
 }
@@ -53,13 +60,15 @@ starts words wide free zeros = record {
     only zero v e = (some-injective first_view v e, refl)
     only (suc i) v e = absurd (some-ne-none v (sym e))
 
-at_end : {A : Type 0} (l : List A) (a b : A) (j : ℕ) → get_elem? (l ++ a ∷ []) j ≡ some b → (get_elem? l j ≡ some b) ⊎ ((a ≡ b) × (j ≡ length l))
+at_end : {A : Type 0} (l : List A) (a b : A) (j : ℕ) → get_elem? (l ++ a ∷ []) j ≡ some b
+    → (get_elem? l j ≡ some b) ⊎ ((a ≡ b) × (j ≡ length l))
 at_end [] a b zero e = inr (some-injective a b e, refl)
 at_end [] a b (suc j) e = absurd (some-ne-none b (sym e))
 at_end (x ∷ xs) a b zero e = inl e
 at_end (x ∷ xs) a b (suc j) e = ⊎_elim (λ t. inl t) (λ t. inr (t.0, ap suc t.1)) (at_end xs a b j e)
 
-pub parts : (id : ℕ) (v : View) (h : CallerHalf) (k : CalleeHalf) → v.caller ≡ Some h → v.callee ≡ Some k → Splits HalvesAgree id v (caller_only v) (callee_only v)
+pub parts : (id : ℕ) (v : View) (h : CallerHalf) (k : CalleeHalf) → v.caller ≡ Some h
+    → v.callee ≡ Some k → Splits HalvesAgree id v (caller_only v) (callee_only v)
 parts id v h k is is' s r at = record {
   caller = r.caller;
   callee = r.callee;
@@ -67,39 +76,50 @@ parts id v h k is is' s r at = record {
   callee_seat = length (set s.views id (caller_only v));
   caller_at = λ j w x e has. ⊎_elim
       (λ f. ⊎_elim
-      (λ (t : (j ≡ id) × (caller_only v ≡ w)). let old = r.caller_at id v x at (ap (λ (u : View). u.caller) t.1 ∙ has) in (old.0, t.0 ∙ old.1))
+      (λ (t : (j ≡ id) × (caller_only v ≡ w)). let old = r.caller_at id v x at
+      (ap (λ (u : View). u.caller) t.1 ∙ has) in (old.0, t.0 ∙ old.1))
       (λ (t : (j ≢ id) × (get_elem? s.views j ≡ some w)). r.caller_at j w x t.1 has)
       (at_set s.views id j (caller_only v) w f))
-      (λ (t : (callee_only v ≡ w) × (j ≡ length (set s.views id (caller_only v)))). absurd (let f : None ≡ Some x = ap (λ (u : View). u.caller) t.0 ∙ has in cc))
+      (λ (t : (callee_only v ≡ w) × (j ≡ length (set s.views id (caller_only v)))). absurd
+      (let f : None ≡ Some x = ap (λ (u : View). u.caller) t.0 ∙ has in cc))
       (at_end (set s.views id (caller_only v)) (callee_only v) w j e);
   callee_at = λ j w x e has. ⊎_elim
       (λ f. ⊎_elim
-      (λ (t : (j ≡ id) × (caller_only v ≡ w)). absurd (let f : None ≡ Some x = ap (λ (u : View). u.callee) t.1 ∙ has in cc))
-      (λ (t : (j ≢ id) × (get_elem? s.views j ≡ some w)). absurd (t.0 ((r.callee_at j w x t.1 has).1 ∙ sym (r.callee_at id v k at is').1)))
+      (λ (t : (j ≡ id) × (caller_only v ≡ w)). absurd
+      (let f : None ≡ Some x = ap (λ (u : View). u.callee) t.1 ∙ has in cc))
+      (λ (t : (j ≢ id) × (get_elem? s.views j ≡ some w)). absurd
+      (t.0 ((r.callee_at j w x t.1 has).1 ∙ sym (r.callee_at id v k at is').1)))
       (at_set s.views id j (caller_only v) w f))
-      (λ (t : (callee_only v ≡ w) × (j ≡ length (set s.views id (caller_only v)))). ((r.callee_at id v x at (ap (λ (u : View). u.callee) t.0 ∙ has)).0, t.1))
+      (λ (t : (callee_only v ≡ w) × (j ≡ length (set s.views id (caller_only v)))).
+      ((r.callee_at id v x at (ap (λ (u : View). u.callee) t.0 ∙ has)).0, t.1))
       (at_end (set s.views id (caller_only v)) (callee_only v) w j e);
   rule = r.rule;
 }
 
-pub joins : (id : ℕ) (v : View) (other : ℕ) (w : View) (h : CallerHalf) (k : CalleeHalf) → v.caller ≡ Some h → w.callee ≡ Some k → Joins HalvesAgree id v other w (both_halves v w) no_half
+pub joins : (id : ℕ) (v : View) (other : ℕ) (w : View) (h : CallerHalf) (k : CalleeHalf) → v.caller
+    ≡ Some h → w.callee ≡ Some k → Joins HalvesAgree id v other w (both_halves v w) no_half
 joins id v other w h k is is' s r at apart there = record {
   caller = r.caller;
   callee = r.callee;
   caller_seat = r.caller_seat;
   callee_seat = id;
   caller_at = λ j u x e has. ⊎_elim
-      (λ (t : (j ≡ other) × (no_half ≡ u)). absurd (let f : None ≡ Some x = ap (λ (u : View). u.caller) t.1 ∙ has in cc))
+      (λ (t : (j ≡ other) × (no_half ≡ u)). absurd
+      (let f : None ≡ Some x = ap (λ (u : View). u.caller) t.1 ∙ has in cc))
       (λ (t : (j ≢ other) × (get_elem? vs j ≡ some u)). ⊎_elim
-      (λ (t' : (j ≡ id) × (both_halves v w ≡ u)). let old = r.caller_at id v x at (ap (λ (u : View). u.caller) t'.1 ∙ has) in (old.0, t'.0 ∙ old.1))
+      (λ (t' : (j ≡ id) × (both_halves v w ≡ u)). let old = r.caller_at id v x at
+      (ap (λ (u : View). u.caller) t'.1 ∙ has) in (old.0, t'.0 ∙ old.1))
       (λ (t' : (j ≢ id) × (get_elem? s.views j ≡ some u)). r.caller_at j u x t'.1 has)
       (at_set s.views id j (both_halves v w) u t.1))
       (at_set vs other j no_half u e);
   callee_at = λ j u x e has. ⊎_elim
-      (λ (t : (j ≡ other) × (no_half ≡ u)). absurd (let f : None ≡ Some x = ap (λ (u : View). u.callee) t.1 ∙ has in cc))
+      (λ (t : (j ≡ other) × (no_half ≡ u)). absurd
+      (let f : None ≡ Some x = ap (λ (u : View). u.callee) t.1 ∙ has in cc))
       (λ (t : (j ≢ other) × (get_elem? vs j ≡ some u)). ⊎_elim
-      (λ (t' : (j ≡ id) × (both_halves v w ≡ u)). ((r.callee_at other w x before (ap (λ (u : View). u.callee) t'.1 ∙ has)).0, t'.0))
-      (λ (t' : (j ≢ id) × (get_elem? s.views j ≡ some u)). absurd (t.0 ((r.callee_at j u x t'.1 has).1 ∙ sym (r.callee_at other w k before is').1)))
+      (λ (t' : (j ≡ id) × (both_halves v w ≡ u)).
+      ((r.callee_at other w x before (ap (λ (u : View). u.callee) t'.1 ∙ has)).0, t'.0))
+      (λ (t' : (j ≢ id) × (get_elem? s.views j ≡ some u)). absurd
+      (t.0 ((r.callee_at j u x t'.1 has).1 ∙ sym (r.callee_at other w k before is').1)))
       (at_set s.views id j (both_halves v w) u t.1))
       (at_set vs other j no_half u e);
   rule = r.rule;
@@ -109,7 +129,9 @@ joins id v other w h k is is' s r at apart there = record {
     vs = set s.views id (both_halves v w)
 
     before : get_elem? s.views other ≡ some w
-    before = ⊎_elim (λ (t : (other ≡ id) × (both_halves v w ≡ w)). absurd (apart t.0)) (λ (t : (¬ (other ≡ id)) × (get_elem? s.views other ≡ some w)). t.1) (at_set s.views id other (both_halves v w) w there)
+    before = ⊎_elim (λ (t : (other ≡ id) × (both_halves v w ≡ w)). absurd (apart t.0))
+        (λ (t : (¬ (other ≡ id)) × (get_elem? s.views other ≡ some w)). t.1)
+        (at_set s.views id other (both_halves v w) w there)
 
 zeros : ℕ → List ℕ
 zeros n = replicate n 0
@@ -129,5 +151,9 @@ unfolding zeros fresh_table
 starts_fresh = starts (1 ∷ replicate (TABLE_WORDS - 1) 0) refl refl tail_zero
 
 -- what the joined seat knows of the last words
-pub closes : (words : List ℕ) (s : St) (r : HalvesAgree s) (id : ℕ) (v : View) (h : CallerHalf) (k : CalleeHalf) → s.words ≡ words → get_elem? s.views id ≡ some v → v.caller ≡ Some h → v.callee ≡ Some k → Rule words h k
-closes words s r id v h k same at is is' = subst (λ (z : List ℕ × (CallerHalf × CalleeHalf)). Rule z.0 z.1.0 z.1.1) (λ i. (same i, (sym (r.caller_at id v h at is).0 i, sym (r.callee_at id v k at is').0 i))) r.rule
+pub closes : (words : List ℕ) (s : St) (r : HalvesAgree s) (id : ℕ) (v : View) (h : CallerHalf)
+    (k : CalleeHalf) → s.words ≡ words → get_elem? s.views id ≡ some v → v.caller ≡ Some h
+    → v.callee ≡ Some k → Rule words h k
+closes words s r id v h k same at is is' =
+    subst (λ (z : List ℕ × (CallerHalf × CalleeHalf)). Rule z.0 z.1.0 z.1.1) (λ i.
+    (same i, (sym (r.caller_at id v h at is).0 i, sym (r.callee_at id v k at is').0 i))) r.rule

@@ -1,4 +1,5 @@
--- The places and the marks in the shared words that code and definitions share, each as the profile has it.
+-- The places and the marks in the shared words that code and definitions share, each as the profile
+-- has it.
 use Rattle.std.proofs.Common.{◌≡◌, ◌+◌, ◌^◌, refl}
 use Rattle.scmi_words.specs.declared.layout.TheConstants.{STATUS, FLAGS, LENGTH, HEADER, PAYLOAD, TABLE_WORDS, STATUS_AT, FLAGS_AT}
 use Rattle.scmi_words.specs.declared.status_word.TheConstants.{POSTED, FREE, CHANNEL_ERROR, TAKEN, RELEASED, CLOSED}

@@ -36,10 +36,12 @@ told_here error false e = e
 told_here released false e = e
 
 -- what a status tells of the other end
-pub told_right : (m : Mark) (mine other told : Bool) (n : ℕ) → n ≡ status_word m (mine || other) → (told ≡ true → other ≡ true) → told_by mine told n ≡ true → other ≡ true
+pub told_right : (m : Mark) (mine other told : Bool) (n : ℕ) → n ≡ status_word m (mine || other)
+    → (told ≡ true → other ≡ true) → told_by mine told n ≡ true → other ≡ true
 told_right m mine other true n is was e = was refl
 told_right m true other false n is was e = was e
-told_right m false other false n is was e = told_here m other (subst (λ (z : ℕ). nat_le CLOSED z ≡ true) is e)
+told_right m false other false n is was e =
+    told_here m other (subst (λ (z : ℕ). nat_le CLOSED z ≡ true) is e)
 
 pub answer_odd : (x : Answer) (b : Bool) → status_word (answer_mark x) b % 2 ≡ 1
 answer_odd (Reply m) false = refl
@@ -49,7 +51,8 @@ answer_odd Released true = refl
 answer_odd ChannelError false = refl
 answer_odd ChannelError true = refl
 
-pub cleared : (x : Answer) (b : Bool) → status_word (answer_mark x) b % CLOSED ≡ status_word (answer_mark x) false
+pub cleared : (x : Answer) (b : Bool)
+    → status_word (answer_mark x) b % CLOSED ≡ status_word (answer_mark x) false
 cleared (Reply m) false = refl
 cleared (Reply m) true = refl
 cleared Released false = refl
@@ -68,7 +71,10 @@ not_taken_zero true e = omega arith
 pub not_settled_zero : (o : Option Answer) (b : Bool) → status_word (settled_mark o) b ≡ 0 → ⊥
 not_settled_zero None false e = omega arith
 not_settled_zero None true e = omega arith
-not_settled_zero (Some x) b e = let odd = answer_odd x b in let f : 0 % 2 ≡ 1 = ap (λ (z : ℕ). z % 2) (sym e) ∙ odd in omega arith
+not_settled_zero (Some x) b e =
+    let odd = answer_odd x b in
+    let f : 0 % 2 ≡ 1 = ap (λ (z : ℕ). z % 2) (sym e) ∙ odd in
+    omega arith
 
 pub or_sides : (a b : Bool) → (a || b) ≡ false → (a ≡ false) × (b ≡ false)
 or_sides false b e = (refl, e)

@@ -18,7 +18,8 @@ frame_words (Malformed l h) = l ∷ h ∷ []
 
 -- the table begins with these words, from the length on
 abbrev pub Begins : List ℕ → List ℕ → Type 0
-Begins table words = (i : ℕ) → i < length words → slice_index table (LENGTH + i) ≡ slice_index words i
+Begins table words = (i : ℕ) → i < length words
+    → slice_index table (LENGTH + i) ≡ slice_index words i
 
 -- the words of a fresh area from the length on: zeros
 unfoldable pub fresh_words : List ℕ
@@ -28,7 +29,8 @@ fresh_words = replicate (TABLE_WORDS - LENGTH) 0
 unfoldable pub fresh_table : List ℕ
 fresh_table = FREE ∷ replicate (TABLE_WORDS - 1) 0
 
--- the words that stand after an answer to a frame: the response's, or the frame's, or those of a fresh area
+-- the words that stand after an answer to a frame: the response's, or the frame's, or those of a
+-- fresh area
 abbrev pub settled_words : Option Answer → Option Frame → List ℕ
 settled_words (Some (Reply m)) frame = frame_words (Good m)
 settled_words (Some Released) (Some frame) = frame_words frame
@@ -52,7 +54,8 @@ IsValidAnswer _ = Unit {0}
 
 -- the frame that stored words are
 abbrev pub frame_in : List ℕ → Frame
-frame_in (l ∷ h ∷ ps) = cond (is_well_formed l) (Good record { header = header_of h; payload = record { items = ps } }) (Malformed l h)
+frame_in (l ∷ h ∷ ps) = cond (is_well_formed l)
+    (Good record { header = header_of h; payload = record { items = ps } }) (Malformed l h)
 frame_in _ = Malformed 0 0
 
 -- the words of the last frame taken
@@ -72,18 +75,21 @@ message_of _ = record { header = header_of 0; payload = record { items = [] } }
 
 -- the answer that a status and the stored words make
 abbrev pub answer_of : ℕ → List ℕ → Answer
-answer_of status words = cond (status == FREE) (Reply (message_of words)) (cond (status == CHANNEL_ERROR) ChannelError Released)
+answer_of status words = cond (status == FREE) (Reply (message_of words))
+    (cond (status == CHANNEL_ERROR) ChannelError Released)
 
 -- the payload words of a frame
 abbrev pub frame_size : Frame → ℕ
 frame_size (Good m) = length m.payload.items
 frame_size (Malformed l h) = 0
 
--- the accesses by which a frame is posted or taken: its length, its header, its payload, and one exchange of the status
+-- the accesses by which a frame is posted or taken: its length, its header, its payload, and one
+-- exchange of the status
 abbrev pub frame_steps : Frame → ℕ
 frame_steps f = frame_size f + 3
 
--- the accesses by which an answer is given or collected: one of the status, and for a reply its length, its header and its payload
+-- the accesses by which an answer is given or collected: one of the status, and for a reply its
+-- length, its header and its payload
 abbrev pub answer_steps : Answer → ℕ
 answer_steps (Reply m) = length m.payload.items + 3
 answer_steps _ = 1

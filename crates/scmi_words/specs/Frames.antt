@@ -20,7 +20,8 @@ HasResponse table seat given = IsSeatAt table seat
     × (answer_area (caller_of seat) ≡ frame_words (Good given))
     × IsValidMessage given
 
--- this message is the frame that the callee took and owes an answer to, and nothing was stored since
+-- this message is the frame that the callee took and owes an answer to, and nothing was stored
+-- since
 abbrev pub HasMessage : SharedTable → TableSeat → Message → Type 0
 HasMessage table seat posted = IsSeatAt table seat
     × (HasCallee seat × IsOwing (callee_of seat) × ((callee_of seat).state.draft ≡ []))

@@ -1,8 +1,9 @@
 -- The rule of the table, between any two steps.
 --
--- Its clauses: what the status says in each stage, with the closed mark if and only if an end has closed; who may store; what the
--- words from the length on encode; that flags are 0; that nothing is posted or taken once an end has closed; and in each
--- stage how the four lists of the channel agree.
+-- Its clauses: what the status says in each stage, with the closed mark if and only if an end has
+-- closed; who may store; what the words from the length on encode; that flags are 0; that nothing
+-- is posted or taken once an end has closed; and in each stage how the four lists of the channel
+-- agree.
 use Rattle.std.specs.Prelude.{◌≡◌, ◌≢◌, ℕ, ◌+◌, ◌^◌, ◌<◌, ◌≤◌, ◌⊎◌, ◌||◌, true, false, List, [], ◌∷◌, ◌++◌, length, slice_index, Some, None}
 use Rattle.std.specs.List.{last_or}
 use lib.ListN.{get_elem?}
@@ -25,7 +26,8 @@ module _ (words : List ℕ) (caller : CallerState) (callee : CalleeState) where
   abbrev pub Status : Mark → Type 0
   Status m = slice_index words STATUS ≡ status_word m (caller.closed || callee.closed)
 
-  -- free, with nothing outstanding and nothing withdrawn: the caller alone may store, and until it does the last answer stands
+  -- free, with nothing outstanding and nothing withdrawn: the caller alone may store, and until it
+  -- does the last answer stands
   pub record IsIdle : Type 0 where
     pub phase : caller.phase ≡ Idle
     pub taken : callee.taken ≡ caller.posted
@@ -34,7 +36,8 @@ module _ (words : List ℕ) (caller : CallerState) (callee : CalleeState) where
     pub no_draft : callee.draft ≡ []
     pub status : Status (settled_mark (last_or None callee.answered))
     -- before the caller's first store since its last collect
-    pub area : caller.draft ≡ [] → Begins words (settled_words (last_or None callee.answered) (last_or None callee.taken))
+    pub area : caller.draft ≡ []
+        → Begins words (settled_words (last_or None callee.answered) (last_or None callee.taken))
     pub draft : Begins words caller.draft
     pub valid : (x : Answer) → last_or None callee.answered ≡ Some x → IsValidAnswer x
     pub valid_frame : (f : Frame) → last_or None callee.taken ≡ Some f → IsValid f
@@ -54,7 +57,8 @@ module _ (words : List ℕ) (caller : CallerState) (callee : CalleeState) where
     pub area : Begins words (frame_words frame)
     pub valid : IsValid frame
 
-  -- taken: no end has closed, the callee alone may store, and until it does the last frame taken stands
+  -- taken: no end has closed, the callee alone may store, and until it does the last frame taken
+  -- stands
   pub record IsTaken : Type 0 where
     pub frame : Frame
     pub phase : caller.phase ≡ Waiting
@@ -116,10 +120,13 @@ pub record Rule (words : List ℕ) (caller : CallerHalf) (callee : CalleeHalf) :
   pub caller_told : caller.told ≡ true → callee.state.closed ≡ true
   pub callee_told : callee.told ≡ true → caller.state.closed ≡ true
   -- since an end closed, nothing was posted and nothing was taken
-  pub caller_final : caller.state.closed ≡ true → (length caller.state.posted ≡ caller.final_posted) × (length callee.state.taken ≡ caller.final_taken)
-  pub callee_final : callee.state.closed ≡ true → (length caller.state.posted ≡ callee.final_posted) × (length callee.state.taken ≡ callee.final_taken)
+  pub caller_final : caller.state.closed ≡ true → (length caller.state.posted ≡ caller.final_posted)
+      × (length callee.state.taken ≡ caller.final_taken)
+  pub callee_final : callee.state.closed ≡ true → (length caller.state.posted ≡ callee.final_posted)
+      × (length callee.state.taken ≡ callee.final_taken)
   -- what refused closes showed stays true
-  pub shown : (caller.shown_taken ≤ length callee.state.taken) × (caller.shown_answered ≤ length callee.state.answered)
+  pub shown : (caller.shown_taken ≤ length callee.state.taken)
+      × (caller.shown_answered ≤ length callee.state.answered)
 
 -- each half is in one view, wherever that is, and the rule holds of them
 pub record HalvesAgree (s : State (Unit {0}) View) : Type 0 where
@@ -127,6 +134,8 @@ pub record HalvesAgree (s : State (Unit {0}) View) : Type 0 where
   pub callee : CalleeHalf
   pub caller_seat : ℕ
   pub callee_seat : ℕ
-  pub caller_at : (i : ℕ) (v : View) (h : CallerHalf) → get_elem? s.views i ≡ some v → v.caller ≡ Some h → (h ≡ caller) × (i ≡ caller_seat)
-  pub callee_at : (i : ℕ) (v : View) (h : CalleeHalf) → get_elem? s.views i ≡ some v → v.callee ≡ Some h → (h ≡ callee) × (i ≡ callee_seat)
+  pub caller_at : (i : ℕ) (v : View) (h : CallerHalf) → get_elem? s.views i ≡ some v
+      → v.caller ≡ Some h → (h ≡ caller) × (i ≡ caller_seat)
+  pub callee_at : (i : ℕ) (v : View) (h : CalleeHalf) → get_elem? s.views i ≡ some v
+      → v.callee ≡ Some h → (h ≡ callee) × (i ≡ callee_seat)
   pub rule : Rule s.words caller callee

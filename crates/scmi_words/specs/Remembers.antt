@@ -9,8 +9,10 @@ use Rattle.scmi_words.specs.CalleeSteps.{IsOwing}
 use Rattle.scmi_words.specs.Phase.{is_left, is_stranded, unread}
 use Rattle.scmi_words.specs.StatusWord.{status_word, settled_mark}
 
--- what the caller's end remembers: its phase, the status of the last answer, whether it closed and whether it was notified
-pub record CallerRemembers (h : CallerHalf) (now : Phase) (status : ℕ) (own known : Bool) : Type 0 where
+-- what the caller's end remembers: its phase, the status of the last answer, whether it closed and
+-- whether it was notified
+pub record CallerRemembers (h : CallerHalf) (now : Phase) (status : ℕ)
+    (own known : Bool) : Type 0 where
   pub phase : now ≡ h.state.phase
   pub closed : own ≡ h.state.closed
   pub told : known ≡ h.told

@@ -24,4 +24,5 @@ accesses me = (caller_or me.0.caller).steps + (callee_or me.0.callee).steps
 
 -- an access that reports this of what it found is counted, whatever it found
 abbrev pub Counts : (ℕ → SeatState → Type 0) → SeatState → Type 0
-Counts tells before = (found : ℕ) (after : SeatState) → tells found after → accesses after ≡ accesses before + 1
+Counts tells before = (found : ℕ) (after : SeatState) → tells found after
+    → accesses after ≡ accesses before + 1

@@ -35,6 +35,7 @@ abbrev pub settled_mark : Option Answer → Mark
 settled_mark (Some x) = answer_mark x
 settled_mark None = free
 
--- whether an end knows of the other's close after a look: it knew, or it has not closed itself and found the closed mark
+-- whether an end knows of the other's close after a look: it knew, or it has not closed itself and
+-- found the closed mark
 abbrev pub told_by : Bool → Bool → ℕ → Bool
 told_by closed told status = told || (not closed && nat_le CLOSED status)

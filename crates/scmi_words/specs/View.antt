@@ -78,11 +78,13 @@ HasCallee s = s.me.0.callee ≡ Some (callee_of s)
 
 -- the same seat with this caller's half, and all else as it was
 abbrev pub CallerBecomes : TableSeat → CallerHalf → TableSeat → Type 0
-CallerBecomes s h t = (t.table_id ≡ s.table_id) × (t.id ≡ s.id) × (t.me ≡ (with_caller s.me.0 h, s.me.1))
+CallerBecomes s h t = (t.table_id ≡ s.table_id) × (t.id ≡ s.id)
+    × (t.me ≡ (with_caller s.me.0 h, s.me.1))
 
 -- the same seat with this callee's half, and all else as it was
 abbrev pub CalleeBecomes : TableSeat → CalleeHalf → TableSeat → Type 0
-CalleeBecomes s h t = (t.table_id ≡ s.table_id) × (t.id ≡ s.id) × (t.me ≡ (with_callee s.me.0 h, s.me.1))
+CalleeBecomes s h t = (t.table_id ≡ s.table_id) × (t.id ≡ s.id)
+    × (t.me ≡ (with_callee s.me.0 h, s.me.1))
 
 -- a view's first part when its halves are parted
 abbrev pub caller_only : View → View

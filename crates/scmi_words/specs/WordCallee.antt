@@ -39,16 +39,21 @@ close_callee_steps owed had_closed = cond (owed || had_closed) 0 1
 
 -- how many accesses a call of the callee makes
 abbrev pub word_callee_steps : WordCallee → CalleeCall → WordCallee → Type 0
-word_callee_steps old (call_take result) new = (callee_half new).steps ≡ (callee_half old).steps + take_steps (old.owes || callee_knows_close (word_callee_view old)) result
-word_callee_steps old (call_answer answer) new = (callee_half new).steps ≡ (callee_half old).steps + answer_steps answer
-word_callee_steps old (call_close_callee result) new = (callee_half new).steps ≡ (callee_half old).steps + close_callee_steps old.owes old.closed
+word_callee_steps old (call_take result) new = (callee_half new).steps ≡ (callee_half old).steps
+    + take_steps (old.owes || callee_knows_close (word_callee_view old)) result
+word_callee_steps old (call_answer answer) new =
+    (callee_half new).steps ≡ (callee_half old).steps + answer_steps answer
+word_callee_steps old (call_close_callee result) new =
+    (callee_half new).steps ≡ (callee_half old).steps + close_callee_steps old.owes old.closed
 
 -- one look was made, which saw another status than posted
 pub record SawUnposted (old new : CalleeHalf) : Type 0 where
   pub looked : new.looks ≡ old.looks + 1
   pub unposted : new.saw ≢ POSTED
 
--- why a take gives nothing: before it an answer was owed, or the end had closed or knew of the caller's close; or one look of it saw another status than posted
+-- why a take gives nothing: before it an answer was owed, or the end had closed or knew of the
+-- caller's close; or one look of it saw another status than posted
 abbrev pub WhyNone : WordCallee → Option Frame → WordCallee → Type 0
 WhyNone old (Some f) new = Unit {0}
-WhyNone old None new = Owes (word_callee_view old) ⊎ ((callee_knows_close (word_callee_view old) ≡ true) ⊎ SawUnposted (callee_half old) (callee_half new))
+WhyNone old None new = Owes (word_callee_view old) ⊎ ((callee_knows_close (word_callee_view old)
+    ≡ true) ⊎ SawUnposted (callee_half old) (callee_half new))

@@ -48,7 +48,8 @@ HasNoDraft caller = (caller_half caller).state.draft ≡ []
 abbrev pub IsWithdrawn : WordCaller → Type 0
 IsWithdrawn caller = (caller_half caller).state.phase ≡ Withdrawn
 
--- how many accesses a post makes: none where it was refused before its first store, as what the caller knew forbade it
+-- how many accesses a post makes: none where it was refused before its first store, as what the
+-- caller knew forbade it
 abbrev pub post_steps : Bool → Frame → Result (Unit {0}) PostError → ℕ
 post_steps knew frame (Ok done) = frame_steps frame
 post_steps knew frame (Err refused.Closed) = cond knew 0 (frame_steps frame)
@@ -60,18 +61,23 @@ collect_steps knew Nothing = 1
 collect_steps knew (Got x) = answer_steps x
 collect_steps knew Closed = cond knew 0 1
 
--- how many accesses a close makes, at most: none where the end had closed, and two only where it withdraws
+-- how many accesses a close makes, at most: none where the end had closed, and two only where it
+-- withdraws
 abbrev pub close_steps : Bool → Result Closing CloseError → ℕ
 close_steps had_closed (Ok closing.Withdrawn) = cond had_closed 0 2
 close_steps had_closed _ = cond had_closed 0 1
 
 -- how many accesses a call of the caller makes
 abbrev pub word_caller_steps : WordCaller → CallerCall → WordCaller → Type 0
-word_caller_steps old (call_post frame result) new = (caller_half new).steps ≡ (caller_half old).steps + post_steps (knows_close (word_caller_view old)) frame result
-word_caller_steps old (call_collect result) new = (caller_half new).steps ≡ (caller_half old).steps + collect_steps (knows_close (word_caller_view old)) result
-word_caller_steps old (call_close result) new = (caller_half new).steps ≤ (caller_half old).steps + close_steps old.closed result
+word_caller_steps old (call_post frame result) new = (caller_half new).steps
+    ≡ (caller_half old).steps + post_steps (knows_close (word_caller_view old)) frame result
+word_caller_steps old (call_collect result) new = (caller_half new).steps
+    ≡ (caller_half old).steps + collect_steps (knows_close (word_caller_view old)) result
+word_caller_steps old (call_close result) new =
+    (caller_half new).steps ≤ (caller_half old).steps + close_steps old.closed result
 
--- one look was made, which saw no closed mark, and with a post outstanding a channel that is not free
+-- one look was made, which saw no closed mark, and with a post outstanding a channel that is not
+-- free
 pub record SawNothing (old new : WordCaller) : Type 0 where
   pub looked : (caller_half new).looks ≡ (caller_half old).looks + 1
   pub unclosed : (caller_half new).saw < CLOSED
@@ -82,9 +88,13 @@ abbrev pub WhyNothing : WordCaller → Collected → WordCaller → Type 0
 WhyNothing old Nothing new = SawNothing old new
 WhyNothing old _ new = Unit {0}
 
--- what a close shows: a withdrawal, the phase for which the area has status 1 and the frame; a refusal, that the last post was taken and no answer to it shown, or that it was answered
+-- what a close shows: a withdrawal, the phase for which the area has status 1 and the frame; a
+-- refusal, that the last post was taken and no answer to it shown, or that it was answered
 abbrev pub CloseShows : WordCaller → Result Closing CloseError → Type 0
 CloseShows caller (Ok closing.Idle) = Unit {0}
 CloseShows caller (Ok closing.Withdrawn) = IsWithdrawn caller
-CloseShows caller (Err InService) = ((caller_half caller).shown_taken ≡ length (caller_half caller).state.posted) × ((caller_half caller).shown_answered < length (caller_half caller).state.posted)
-CloseShows caller (Err ReplyWaiting) = (caller_half caller).shown_answered ≡ length (caller_half caller).state.posted
+CloseShows caller (Err InService) =
+    ((caller_half caller).shown_taken ≡ length (caller_half caller).state.posted)
+    × ((caller_half caller).shown_answered < length (caller_half caller).state.posted)
+CloseShows caller (Err ReplyWaiting) =
+    (caller_half caller).shown_answered ≡ length (caller_half caller).state.posted

@@ -20,7 +20,8 @@ fresh_area = put_word STATUS_AT 1 (replicate AREA_BYTES 0)
 
 -- the area of the words of a table: the low half of the status, the flags, and the words after them
 unfoldable pub area_of : List ℕ → List ℕ
-area_of words = put_words FLAGS_AT (drop 1 words) (put_word STATUS_AT (slice_index words STATUS % 2 ^ 32) (replicate AREA_BYTES 0))
+area_of words = put_words FLAGS_AT (drop 1 words)
+    (put_word STATUS_AT (slice_index words STATUS % 2 ^ 32) (replicate AREA_BYTES 0))
 
 -- the words that are left
 abbrev pub image_words : WordImage → List ℕ
@@ -45,11 +46,15 @@ pub record StandsAtEnd (caller : CallerState) (callee : CalleeState) (area : Lis
   pub size : length area ≡ AREA_BYTES
   pub reserved : (i : ℕ) → (i < 0x04) ⊎ ((0x08 ≤ i) × (i < 0x10)) → slice_index area i ≡ 0
   pub flags : word_at FLAGS_AT area ≡ 0
-  -- all was taken and answered: the last answer to the last frame, unless a post was refused as closed
-  pub answered : (f : Frame) (x : Answer) → callee.taken ≡ caller.posted → last_or None callee.taken ≡ Some f → last_or None callee.answered ≡ Some x → length callee.answered ≡ length callee.taken
+  -- all was taken and answered: the last answer to the last frame, unless a post was refused as
+  -- closed
+  pub answered : (f : Frame) (x : Answer) → callee.taken ≡ caller.posted
+      → last_or None callee.taken ≡ Some f → last_or None callee.answered ≡ Some x
+      → length callee.answered ≡ length callee.taken
       → (status_at area ≡ answer_status x) × (caller.draft ≡ [] → StandsForAnswer area f x)
   -- the last post was left untaken: that frame, with status 1 where it was withdrawn
-  pub untaken : (f : Frame) → caller.posted ≡ callee.taken ++ f ∷ [] → StandsFor area (untaken_status caller.phase) f
+  pub untaken : (f : Frame) → caller.posted ≡ callee.taken ++ f ∷ []
+      → StandsFor area (untaken_status caller.phase) f
   -- the callee still owes: the status alone
   pub owing : length callee.taken ≡ length callee.answered + 1 → status_at area ≡ 0
   -- nothing was posted: the fresh area, unless a post was refused as closed

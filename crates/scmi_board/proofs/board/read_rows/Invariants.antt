@@ -6,7 +6,8 @@ use Rattle.scmi_board.proofs.board.read_rows.Given as goal
 
 abbrev pub invariant-loop-line : goal.invariant-loop-line
 invariant-loop-line l = record {
-  so_far : rows_of (last_number l.fn.lines) (asked_board l.board) (lines_left l.lines) ≡ rows_of (last_number l.fn.lines) (asked_board l.fn.board) (lines_left l.fn.lines);
+  so_far : rows_of (last_number l.fn.lines) (asked_board l.board) (lines_left l.lines)
+      ≡ rows_of (last_number l.fn.lines) (asked_board l.fn.board) (lines_left l.fn.lines);
   last : last_number l.lines ≡ last_number l.fn.lines;
 }
 

@@ -8,7 +8,8 @@ use Rattle.scmi_board.proofs.board_lines.apply_lines.Goals as goal
 
 pub apply_line-requires : goal.apply_line-requires
 apply_line-requires c =
-    let none : BoardLine = said.Channel (record { agent = 0; channel = record { words = 0; one_way = false; share = 0 } }) in
+    let none : BoardLine = said.Channel
+    (record { agent = 0; channel = record { words = 0; one_way = false; share = 0 } }) in
     let line = get_or c.args.lines.now c.lines.line-index none in
     let is = c.requires.lines c.lines.line-index none c.lines-test.true in
     record {

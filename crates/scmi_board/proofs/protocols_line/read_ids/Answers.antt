@@ -9,23 +9,37 @@ use Rattle.scmi_board.proofs.protocols_line.read_ids.Goals as goal
 
 pub loop-part-preserved : goal.loop-part-preserved
 loop-part-preserved c =
-    let parts = YieldsList-from_slice_split _ is_comma c.args.text.now (cc) (cc) (cc) (λ x b q k. search (rules, tests)) in
-    let turn = YieldsList-turn parts c.loop-part.yielded _ c.loop-part.yielded_by _ _ c.in-Some.part c.in-Some.is c.next.ensures.steps in
+    let parts = YieldsList-from_slice_split _ is_comma c.args.text.now (cc) (cc) (cc)
+    (λ x b q k. search (rules, tests)) in
+    let turn = YieldsList-turn parts c.loop-part.yielded _ c.loop-part.yielded_by _ _ c.in-Some.part
+    c.in-Some.is c.next.ensures.steps in
     record {
       can = search rules;
       ends = search rules;
-      so_far = goes_on_behind with_id c.loop-part.ids.items _ (parts_of c.args.text.now) c.loop-part.yielded c.in-Some.part c.in-Some.part.now c.in-Some.part.now (after_each with_id [] (parts_of c.args.text.now)) turn.0 turn.1 c.in_ok-add_id.ensures c.loop-part.invariant.so_far;
+      so_far = goes_on_behind with_id c.loop-part.ids.items _ (parts_of c.args.text.now)
+          c.loop-part.yielded c.in-Some.part c.in-Some.part.now c.in-Some.part.now
+          (after_each with_id [] (parts_of c.args.text.now)) turn.0 turn.1 c.in_ok-add_id.ensures
+          c.loop-part.invariant.so_far;
     }
 
 pub returns-in_err-add_id : goal.returns-in_err-add_id
 returns-in_err-add_id c =
-    let parts = YieldsList-from_slice_split _ is_comma c.args.text.now (cc) (cc) (cc) (λ x b q k. search (rules, tests)) in
-    let turn = YieldsList-turn parts c.loop-part.yielded _ c.loop-part.yielded_by _ _ c.in-Some.part c.in-Some.is c.next.ensures.steps in
+    let parts = YieldsList-from_slice_split _ is_comma c.args.text.now (cc) (cc) (cc)
+    (λ x b q k. search (rules, tests)) in
+    let turn = YieldsList-turn parts c.loop-part.yielded _ c.loop-part.yielded_by _ _ c.in-Some.part
+    c.in-Some.is c.next.ensures.steps in
     let p = err_from_is_err_and c.from_residual.result c.from_residual.ensures.1 in
-    rw (p.1, p.2) (stops_unless with_id c.loop-part.ids.items (parts_of c.args.text.now) (length c.loop-part.yielded) c.in-Some.part.now c.in-Some.part.now (after_each with_id [] (parts_of c.args.text.now)) c.in_err-add_id.field-0.0 turn.0 turn.1 c.in_err-add_id.ensures c.loop-part.invariant.so_far)
+    rw (p.1, p.2) (stops_unless with_id c.loop-part.ids.items (parts_of c.args.text.now)
+    (length c.loop-part.yielded) c.in-Some.part.now c.in-Some.part.now
+    (after_each with_id [] (parts_of c.args.text.now)) c.in_err-add_id.field-0.0 turn.0 turn.1
+    c.in_err-add_id.ensures c.loop-part.invariant.so_far)
 
 pub returns : goal.returns
 returns c =
-    let parts = YieldsList-from_slice_split _ is_comma c.args.text.now (cc) (cc) (cc) (λ x b q k. search (rules, tests)) in
-    let ended = YieldsList-end parts c.loop-part.yielded _ c.loop-part.yielded_by _ _ c.in-None.is c.next.ensures.steps in
-    all_done with_id c.loop-part.ids.items (parts_of c.args.text.now) (length c.loop-part.yielded) (after_each with_id [] (parts_of c.args.text.now)) (omega (arith, ended.1)) c.loop-part.invariant.so_far
+    let parts = YieldsList-from_slice_split _ is_comma c.args.text.now (cc) (cc) (cc)
+    (λ x b q k. search (rules, tests)) in
+    let ended = YieldsList-end parts c.loop-part.yielded _ c.loop-part.yielded_by _ _ c.in-None.is
+    c.next.ensures.steps in
+    all_done with_id c.loop-part.ids.items (parts_of c.args.text.now)
+    (length c.loop-part.yielded) (after_each with_id [] (parts_of c.args.text.now))
+    (omega (arith, ended.1)) c.loop-part.invariant.so_far

@@ -6,6 +6,15 @@ use Rattle.scmi_c.proofs.answer_in.scmi_answer_in.Goals as goal
 pub invariant_of-seat : goal.invariant_of-seat
 invariant_of-seat c =
     let inside = c.seat.inside in
-    let view : Kept = record { held = inside.held; asked = asked_by inside.exchange.frame inside.waiting; aside = inside.aside.slots } in
-    let free : IsFree view = subst IsFree (sym (c.seat.view_is ∙ c.deref_mut-seat.ensures.value)) c.in-Ok.ensures.free in
-    (free-kept c.answer_sized-given.new.held inside.exchange.frame c.answer_sized-given.new.exchange.frame inside.waiting inside.aside.slots free.unasked free.none, c.seat.invariant.1)
+    let view : Kept = record {
+      held = inside.held;
+      asked = asked_by inside.exchange.frame inside.waiting;
+      aside = inside.aside.slots;
+    } in
+    let free : IsFree view =
+    subst IsFree (sym (c.seat.view_is ∙ c.deref_mut-seat.ensures.value)) c.in-Ok.ensures.free in (
+      free-kept c.answer_sized-given.new.held inside.exchange.frame
+          c.answer_sized-given.new.exchange.frame inside.waiting inside.aside.slots free.unasked
+          free.none,
+      c.seat.invariant.1,
+    )

@@ -21,23 +21,28 @@ returns-clause-ok c =
     let frame = c.desk.inside.exchange.frame in
     let waiting = c.desk.inside.waiting in
     let asked : Asked = asked_of frame waiting in
-    let same : c.desk.inside.held ≡ c.args.desk.now.held = ap (λ (k : Kept). k.held) c.desk.view_is in
+    let same : c.desk.inside.held ≡ c.args.desk.now.held =
+    ap (λ (k : Kept). k.held) c.desk.view_is in
     let may : IsAskable c.args.desk.now.held asked =
-    subst (λ (p : Held). IsAskable p asked) same (kept-of (IsAskable c.desk.inside.held) frame waiting (search rules) c.desk.invariant.0.asked) in
+    subst (λ (p : Held). IsAskable p asked) same (kept-of
+    (IsAskable c.desk.inside.held) frame waiting (search rules) c.desk.invariant.0.asked) in
     let size : waiting.bytes ≡ length c.args.area.now = search rules in
     some-and c.args.desk.now.asked asked _ (search rules)
     (record {
       answer = λ h at.
-          committed-in (board_of c.args.desk.now.held) waiting.agent h c.args.area.now c.write_whole.new.area frame _ c.commit-answered.new.reply
+          committed-in (board_of c.args.desk.now.held) waiting.agent h c.args.area.now
+          c.write_whole.new.area frame _ c.commit-answered.new.reply
           (search rules)
-          (subst (λ (n : ℕ). (channel_of (board_of c.args.desk.now.held) waiting.agent).words ≤ channel_words n) size may.words)
+          (subst (λ (n : ℕ). (channel_of (board_of c.args.desk.now.held) waiting.agent).words
+          ≤ channel_words n) size may.words)
           (search rules) c.write_whole.ensures.reply c.write_whole.ensures.error;
       event = search rules;
     })
 
 pub returns-clause-driven : goal.returns-clause-driven
 returns-clause-driven c =
-    some-and c.args.desk.now.asked (asked_of c.desk.inside.exchange.frame c.desk.inside.waiting) _ (search rules) (search rules)
+    some-and c.args.desk.now.asked (asked_of c.desk.inside.exchange.frame c.desk.inside.waiting) _
+    (search rules) (search rules)
 
 pub returns-clause-said : goal.returns-clause-said
 returns-clause-said c =

@@ -14,7 +14,8 @@ refuse-requires-clause-effect c =
 pub returns-clause-driven : goal.returns-clause-driven
 returns-clause-driven c =
     some-and c.args.fault c.in-Some.fault _ (search rules)
-    (some-and c.args.desk.now.asked (asked_of c.desk.inside.exchange.frame c.desk.inside.waiting) _ (search rules) (search rules))
+    (some-and c.args.desk.now.asked (asked_of c.desk.inside.exchange.frame c.desk.inside.waiting) _
+    (search rules) (search rules))
 
 pub returns-clause-said : goal.returns-clause-said
 returns-clause-said c =

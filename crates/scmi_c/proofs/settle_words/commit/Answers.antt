@@ -13,7 +13,10 @@ use Rattle.scmi_c.proofs.settle_words.commit.Goals as goal
 
 pub channel_words-requires : goal.channel_words-requires
 channel_words-requires c =
-    record { size = (kept-of (IsAskable c.desk.inside.held) c.desk.inside.exchange.frame c.desk.inside.waiting (search rules) c.desk.invariant.0.asked).size }
+    record {
+      size = (kept-of (IsAskable c.desk.inside.held) c.desk.inside.exchange.frame
+          c.desk.inside.waiting (search rules) c.desk.invariant.0.asked).size;
+    }
 
 pub commit-requires-clause-effect : goal.commit-requires-clause-effect
 commit-requires-clause-effect c =
@@ -26,15 +29,18 @@ put_message-requires c =
     let frame = c.desk.inside.exchange.frame in
     let waiting = c.desk.inside.waiting in
     let asked : Asked = asked_of frame waiting in
-    let may = kept-of (IsAskable c.desk.inside.held) frame waiting (search rules) c.desk.invariant.0.asked in
+    let may = kept-of (IsAskable c.desk.inside.held) frame waiting
+    (search rules) c.desk.invariant.0.asked in
     let board = board_of c.desk.inside.held in
     let few = may.words in
     let wide : 1 + channel_words waiting.bytes ≤ length c.args.reply.now = search rules in
     let h : List Event = c.stand.ensures.0 in
     record {
-      room = reply-room board waiting.agent h frame c.commit.result c.commit.new.reply (length c.args.reply.now)
+      room = reply-room board waiting.agent h frame c.commit.result c.commit.new.reply
+          (length c.args.reply.now)
           (search rules) (omega (arith, few, wide)) (search rules)
-          (asked-replied board waiting.agent h frame (effect-some _ may.change (may.effect h c.stand.ensures.1)));
+          (asked-replied board waiting.agent h frame
+          (effect-some _ may.change (may.effect h c.stand.ensures.1)));
     }
 
 pub returns-clause-ok : goal.returns-clause-ok
@@ -42,23 +48,29 @@ returns-clause-ok c =
     let frame = c.desk.inside.exchange.frame in
     let waiting = c.desk.inside.waiting in
     let asked : Asked = asked_of frame waiting in
-    let same : c.desk.inside.held ≡ c.args.desk.now.held = ap (λ (k : Kept). k.held) c.desk.view_is in
+    let same : c.desk.inside.held ≡ c.args.desk.now.held =
+    ap (λ (k : Kept). k.held) c.desk.view_is in
     let may : IsAskable c.args.desk.now.held asked =
-    subst (λ (p : Held). IsAskable p asked) same (kept-of (IsAskable c.desk.inside.held) frame waiting (search rules) c.desk.invariant.0.asked) in
+    subst (λ (p : Held). IsAskable p asked) same (kept-of
+    (IsAskable c.desk.inside.held) frame waiting (search rules) c.desk.invariant.0.asked) in
     let board = board_of c.args.desk.now.held in
     some-and c.args.desk.now.asked asked _ (search rules)
     (record {
       answer = λ h at.
-          written-answer board waiting.agent h frame c.commit.result c.commit.new.reply (header_word c.commit.new.reply.header) c.put_message.result c.args.reply.now c.put_message.new.words
+          written-answer board waiting.agent h frame c.commit.result c.commit.new.reply
+          (header_word c.commit.new.reply.header) c.put_message.result c.args.reply.now
+          c.put_message.new.words
           (search rules)
-          (asked-replied board waiting.agent h frame (effect-some _ may.change (may.effect h at))) (λ is. refl)
+          (asked-replied board waiting.agent h frame (effect-some _ may.change (may.effect h at)))
+          (λ is. refl)
           c.put_message.ensures.count c.put_message.ensures.written;
       event = search rules;
     })
 
 pub returns-clause-driven : goal.returns-clause-driven
 returns-clause-driven c =
-    some-and c.args.desk.now.asked (asked_of c.desk.inside.exchange.frame c.desk.inside.waiting) _ (search rules) (search rules)
+    some-and c.args.desk.now.asked (asked_of c.desk.inside.exchange.frame c.desk.inside.waiting) _
+    (search rules) (search rules)
 
 pub returns-clause-said : goal.returns-clause-said
 returns-clause-said c =

@@ -9,7 +9,10 @@ use Rattle.scmi_c.proofs.settle_words.fail.Goals as goal
 
 pub channel_words-requires : goal.channel_words-requires
 channel_words-requires c =
-    record { size = (kept-of (IsAskable c.desk.inside.held) c.desk.inside.exchange.frame c.desk.inside.waiting (search rules) c.desk.invariant.0.asked).size }
+    record {
+      size = (kept-of (IsAskable c.desk.inside.held) c.desk.inside.exchange.frame
+          c.desk.inside.waiting (search rules) c.desk.invariant.0.asked).size;
+    }
 
 pub refuse-requires-clause-effect : goal.refuse-requires-clause-effect
 refuse-requires-clause-effect c =
@@ -21,10 +24,12 @@ pub put_message-requires : goal.put_message-requires
 put_message-requires c =
     let frame = c.desk.inside.exchange.frame in
     let waiting = c.desk.inside.waiting in
-    let may = kept-of (IsAskable c.desk.inside.held) frame waiting (search rules) c.desk.invariant.0.asked in
+    let may = kept-of (IsAskable c.desk.inside.held) frame waiting
+    (search rules) c.desk.invariant.0.asked in
     let wide : 1 + channel_words waiting.bytes ≤ length c.args.reply.now = search rules in
     record {
-      room = failed-room frame c.in-Some.fault c.refuse.new.reply (length c.args.reply.now) (search rules)
+      room = failed-room frame c.in-Some.fault c.refuse.new.reply (length c.args.reply.now)
+          (search rules)
           (some-room waiting.bytes (length c.args.reply.now) may.size wide);
     }
 
@@ -36,14 +41,17 @@ returns-clause-ok c =
     some-and c.args.fault c.in-Some.fault _ (search rules)
     (some-and c.args.desk.now.asked asked _ (search rules)
     (record {
-      answer = failed-written frame c.in-Some.fault c.refuse.new.reply c.put_message.result c.args.reply.now c.put_message.new.words (search rules) c.put_message.ensures.count c.put_message.ensures.written;
+      answer = failed-written frame c.in-Some.fault
+          c.refuse.new.reply c.put_message.result c.args.reply.now c.put_message.new.words
+          (search rules) c.put_message.ensures.count c.put_message.ensures.written;
       event = search rules;
     }))
 
 pub returns-clause-driven : goal.returns-clause-driven
 returns-clause-driven c =
     some-and c.args.fault c.in-Some.fault _ (search rules)
-    (some-and c.args.desk.now.asked (asked_of c.desk.inside.exchange.frame c.desk.inside.waiting) _ (search rules) (search rules))
+    (some-and c.args.desk.now.asked (asked_of c.desk.inside.exchange.frame c.desk.inside.waiting) _
+    (search rules) (search rules))
 
 pub returns-clause-said : goal.returns-clause-said
 returns-clause-said c =

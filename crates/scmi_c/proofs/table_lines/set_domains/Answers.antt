@@ -5,13 +5,15 @@ use Rattle.scmi_c.proofs.table_lines.set_domains.Goals as goal
 
 pub set_domain-requires : goal.set_domain-requires
 set_domain-requires c =
-    let alike = rows_said c.args.plan.now c.rows.plan (lines_from domain_lines 0 (take c.rows.row-index c.args.rows.now)) c.rows.invariant.said in
+    let alike = rows_said c.args.plan.now c.rows.plan
+    (lines_from domain_lines 0 (take c.rows.row-index c.args.rows.now)) c.rows.invariant.said in
     omega (arith, c.rows-test.true, c.rows.invariant.count, alike.domains, c.requires.domains)
 
 pub rows-preserved : goal.rows-preserved
 rows-preserved c = record {
   said =
-      row_said domain_lines 0 c.args.plan.now c.rows.plan c.set_domain.new.plan c.args.rows.now c.rows.row-index c.rows.domain _ c.rows-test.true
+      row_said domain_lines 0 c.args.plan.now c.rows.plan c.set_domain.new.plan c.args.rows.now
+      c.rows.row-index c.rows.domain _ c.rows-test.true
       (omega (arith, c.rows.invariant.count)) c.rows.invariant.said c.set_domain.ensures;
   count = ap (λ (n : ℕ). n + 1) c.rows.invariant.count;
   few = c.rows.invariant.few;

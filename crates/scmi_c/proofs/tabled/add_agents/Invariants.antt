@@ -7,7 +7,8 @@ use Rattle.scmi_c.proofs.tabled.add_agents.Given as goal
 abbrev pub invariant-loop-row : goal.invariant-loop-row
 invariant-loop-row l = record {
   made : l.agents.items ≡ map (λ row. name_in row.name) (take l.row-index l.rows);
-  named : (k : ℕ) (d : AgentRow) → k < l.row-index → IsNameIf l.loose (name_in (get_or l.rows k d).name);
+  named : (k : ℕ) (d : AgentRow) → k < l.row-index
+      → IsNameIf l.loose (name_in (get_or l.rows k d).name);
   count : vec_len l.agents ≡ l.row-index;
   room : length l.rows ≤ vec_capacity l.agents;
 }

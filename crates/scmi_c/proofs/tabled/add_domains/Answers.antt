@@ -9,7 +9,9 @@ use Rattle.scmi_c.proofs.tabled.add_domains.Goals as goal
 pub loop-row-preserved : goal.loop-row-preserved
 loop-row-preserved c = record {
   made = grind (arith, common_steps);
-  named = all_next (λ (row : DomainRow). IsNameIf c.args.loose (name_in row.name)) c.args.rows.now c.loop-row.row-index _ c.loop-row-test.true c.loop-row.invariant.named c.in_ok-name_of.ensures.valid;
+  named = all_next (λ (row : DomainRow). IsNameIf c.args.loose (name_in row.name))
+      c.args.rows.now c.loop-row.row-index _ c.loop-row-test.true c.loop-row.invariant.named
+      c.in_ok-name_of.ensures.valid;
   count = search rules;
   room = search rules;
 }

@@ -7,7 +7,8 @@ use Rattle.scmi_c.proofs.tabled.add_domains.Given as goal
 abbrev pub invariant-loop-row : goal.invariant-loop-row
 invariant-loop-row l = record {
   made : l.domains.items ≡ map domain_in (take l.row-index l.rows);
-  named : (k : ℕ) (d : DomainRow) → k < l.row-index → IsNameIf l.loose (name_in (get_or l.rows k d).name);
+  named : (k : ℕ) (d : DomainRow) → k < l.row-index
+      → IsNameIf l.loose (name_in (get_or l.rows k d).name);
   count : vec_len l.domains ≡ l.row-index;
   room : length l.rows ≤ vec_capacity l.domains;
 }

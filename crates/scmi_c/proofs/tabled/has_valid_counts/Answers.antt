@@ -5,5 +5,6 @@ use Rattle.scmi_c.proofs.tabled.has_valid_counts.Goals as goal
 pub returns : goal.returns
 returns c =
     let t = tables_of c.args.tables.now in
-    c.are_valid_counts.ensures (board_in t) (length-map t.agents (λ row. name_in row.name)) (length-map t.domains domain_in) (length-map t.clocks (clock_in t.rates))
+    c.are_valid_counts.ensures (board_in t) (length-map t.agents (λ row. name_in row.name))
+    (length-map t.domains domain_in) (length-map t.clocks (clock_in t.rates))
     (length-map t.devices device_in)

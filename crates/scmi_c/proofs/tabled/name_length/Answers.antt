@@ -6,5 +6,6 @@ use Rattle.scmi_c.proofs.tabled.name_length.Goals as goal
 pub returns : goal.returns
 returns c =
     let name = c.args.name.now in
-    let is = c.unwrap_or.ensures ∙ ap (λ (o : Option ℕ). unwrap_or o (length name)) c.zero_place.ensures ∙ place_or_length _ name in
+    let is = c.unwrap_or.ensures ∙ ap (λ (o : Option ℕ). unwrap_or o (length name))
+    c.zero_place.ensures ∙ place_or_length _ name in
     record { length = is; within = rw is (place_within _ name) }

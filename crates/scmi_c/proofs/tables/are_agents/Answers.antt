@@ -5,4 +5,5 @@ use Rattle.scmi_c.specs.Tables.{is_agent_row}
 use Rattle.scmi_c.proofs.tables.are_agents.Goals as goal
 
 pub returns : goal.returns
-returns c = all_from_yields_List (is_agent_row c.args.devices) _ _ _ c.all.ensures.ran (YieldsList-from_slice c.args.agents.now cc) (λ x b q k. search (rules, tests))
+returns c = all_from_yields_List (is_agent_row c.args.devices) _ _ _ c.all.ensures.ran
+    (YieldsList-from_slice c.args.agents.now cc) (λ x b q k. search (rules, tests))

@@ -5,4 +5,5 @@ use Rattle.scmi_c.specs.Tables.{is_zero}
 use Rattle.scmi_c.proofs.tables.has_zero.Goals as goal
 
 pub returns : goal.returns
-returns c = any_from_yields_List (is_zero) _ _ _ c.any.ensures.ran (YieldsList-from_slice c.args.name.now cc) (λ x b q k. search (rules, tests))
+returns c = any_from_yields_List (is_zero) _ _ _ c.any.ensures.ran
+    (YieldsList-from_slice c.args.name.now cc) (λ x b q k. search (rules, tests))

@@ -15,4 +15,5 @@ returns-then-devices c =
 pub returns-else-devices : goal.returns-else-devices
 returns-else-devices c =
     let p = 2 ^ c.args.devices in
-    same_from_decides (c.args.mask / p == 0) (nat_lt c.args.mask p) (Decides-below c.args.mask p (pow_pos c.args.devices)) (Decides-ltb c.args.mask p)
+    same_from_decides (c.args.mask / p == 0) (nat_lt c.args.mask p)
+    (Decides-below c.args.mask p (pow_pos c.args.devices)) (Decides-ltb c.args.mask p)

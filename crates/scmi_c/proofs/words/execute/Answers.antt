@@ -16,9 +16,11 @@ put_words-requires-clause-room c =
     let enough = c.requires.fits.enough in
     let same : c.as_slice.result.now ≡ c.command.new.reply.payload.items = search rules in
     subst (λ (items : List ℕ). length items < length c.args.reply.now) (sym same)
-    (reply-room board agent h (frame_in message) c.command.result c.command.new.reply (length c.args.reply.now)
+    (reply-room board agent h (frame_in message) c.command.result c.command.new.reply
+    (length c.args.reply.now)
     c.requires.valid (omega (arith, enough)) (search rules)
-    (fitting-replied board agent h (message_of (slice_index message 0) (drop 1 message)) (omega (arith, few, length-drop 1 message))))
+    (fitting-replied board agent h (message_of (slice_index message 0) (drop 1 message))
+    (omega (arith, few, length-drop 1 message))))
 
 pub returns-clause-answered : goal.returns-clause-answered
 returns-clause-answered c =
@@ -35,11 +37,14 @@ returns-clause-answered c =
     let same : c.as_slice.result.now ≡ c.command.new.reply.payload.items = search rules in
     record {
       answer = λ h at.
-          written-answer board agent h (frame_in message) c.command.result c.command.new.reply header count before after
+          written-answer board agent h
+          (frame_in message) c.command.result c.command.new.reply header count before after
           (search rules)
-          (fitting-replied board agent h (message_of header payload) (omega (arith, few, length-drop 1 message)))
+          (fitting-replied board agent h (message_of header payload)
+          (omega (arith, few, length-drop 1 message)))
           (words-header board agent h header payload c.command.new.reply (search rules))
           (subst (λ (items : List ℕ). count ≡ 1 + length items) same c.put_words.ensures.count)
-          (subst (λ (items : List ℕ). after ≡ (header ∷ items) ++ drop (1 + length items) before) same c.put_words.ensures.written);
+          (subst (λ (items : List ℕ). after ≡ (header ∷ items) ++ drop (1 + length items) before)
+          same c.put_words.ensures.written);
       event = search rules;
     }

@@ -10,6 +10,8 @@ returns-clause-shown g c =
       mode = c.in_ok-mode.mode;
       rest = c.in_ok-bytes.bytes.items;
       named = named_line _ c.in_ok-line.line.items c.in_ok-mode.mode c.in_ok-line.ensures.line mode;
-      behind = behind_line _ c.read_first_line.new.self.left c.in_ok-bytes.bytes.items c.in_ok-line.ensures.rest c.in_ok-bytes.ensures.whole;
-      shown = subst (λ (xs : List ℕ). ShowsInput c.in_ok-mode.mode xs c.in_ok-chart.chart) c.deref-2.ensures.value c.in_ok-chart.ensures.shown;
+      behind = behind_line _ c.read_first_line.new.self.left c.in_ok-bytes.bytes.items
+          c.in_ok-line.ensures.rest c.in_ok-bytes.ensures.whole;
+      shown = subst (λ (xs : List ℕ). ShowsInput c.in_ok-mode.mode xs c.in_ok-chart.chart)
+          c.deref-2.ensures.value c.in_ok-chart.ensures.shown;
     }

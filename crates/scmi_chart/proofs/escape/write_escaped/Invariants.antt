@@ -5,4 +5,5 @@ use Rattle.scmi_chart.proofs.escape.write_escaped.Given as goal
 
 abbrev pub invariant-bytes : goal.invariant-bytes
 invariant-bytes g l =
-    Appends (g.W.Write.contents l.fn.writer) (g.W.Write.contents l.writer) (escaped_text (take l.byte-index l.bytes))
+    Appends (g.W.Write.contents l.fn.writer) (g.W.Write.contents l.writer)
+    (escaped_text (take l.byte-index l.bytes))

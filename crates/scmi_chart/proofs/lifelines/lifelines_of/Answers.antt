@@ -9,5 +9,10 @@ agents-preserved c =
     let below : c.agents.name-index < length c.args.board.now.agents.items = search rules in
     record {
       count = search rules;
-      heads = heads_step string_bytes c.args.board.now.agents.items c.agents.name-index c.name-item.result c.agents.lifelines.items _ _ below c.in_ok-push.ensures.items c.agents.invariant.heads (c.lane_behind-agent.ensures ∙ ap (λ n. lane (1 + n)) counted) (c.in_ok-from_slice.ensures.items ∙ c.as_bytes.ensures.value ∙ ap string_bytes c.name-item.is ∙ ap (λ agents. string_bytes (get_or agents c.agents.name-index c.name-item.result)) c.deref-name-items.ensures.value);
+      heads = heads_step string_bytes c.args.board.now.agents.items c.agents.name-index
+          c.name-item.result c.agents.lifelines.items _ _ below c.in_ok-push.ensures.items
+          c.agents.invariant.heads (c.lane_behind-agent.ensures ∙ ap (λ n. lane (1 + n)) counted)
+          (c.in_ok-from_slice.ensures.items
+          ∙ c.as_bytes.ensures.value ∙ ap string_bytes c.name-item.is ∙ ap (λ agents. string_bytes
+          (get_or agents c.agents.name-index c.name-item.result)) c.deref-name-items.ensures.value);
     }

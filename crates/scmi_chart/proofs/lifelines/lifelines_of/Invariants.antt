@@ -5,5 +5,6 @@ use Rattle.scmi_chart.proofs.lifelines.lifelines_of.Given as goal
 abbrev pub invariant-agents : goal.invariant-agents
 invariant-agents l = record {
   count : length l.lifelines.items ≡ l.name-index;
-  heads : map head_of l.lifelines.items ≡ heads_from 1 (map string_bytes (take l.name-index l.board.agents.items));
+  heads : map head_of l.lifelines.items
+      ≡ heads_from 1 (map string_bytes (take l.name-index l.board.agents.items));
 }

@@ -9,8 +9,10 @@ marks-init c = turned_none sign_of (executed_by (Some c.args.agent)) c.args.mark
 
 pub marks-preserved : goal.marks-preserved
 marks-preserved c =
-    turned_more sign_of (executed_by (Some c.args.agent)) c.marks.i c.marks.marks c.args.marks.now c.index-marks-i.result c.execute.new.mark
-    (omega (arith, c.marks-test.true, c.marks.auto.marks)) c.marks-test.true c.execute.ensures c.marks.invariant
+    turned_more sign_of (executed_by (Some c.args.agent)) c.marks.i c.marks.marks c.args.marks.now
+    c.index-marks-i.result c.execute.new.mark
+    (omega (arith, c.marks-test.true, c.marks.auto.marks)) c.marks-test.true c.execute.ensures
+    c.marks.invariant
 
 pub returns : goal.returns
 returns c =

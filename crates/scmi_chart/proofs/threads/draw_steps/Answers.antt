@@ -13,7 +13,8 @@ pub steps-preserved : goal.steps-preserved
 steps-preserved g c =
     let below : c.steps.i < length c.args.steps.now = c.steps-test.true in record {
       agents = c.record_step.ensures.agents ∙ c.steps.invariant.agents;
-      so_far = step_more _ _ _ _ _ c.steps.i c.index-steps-i.result _ _ _ _ below c.index-steps-i.is c.steps.invariant.so_far c.in_ok-record_step.ensures.shown;
+      so_far = step_more _ _ _ _ _ c.steps.i c.index-steps-i.result _ _ _ _ below c.index-steps-i.is
+          c.steps.invariant.so_far c.in_ok-record_step.ensures.shown;
     }
 
 pub returns : goal.returns
@@ -21,4 +22,5 @@ returns g c =
     let all : length c.args.steps.now ≤ c.steps.i = omega (arith, c.steps-test.false) in
     all_steps _ _ _ _ _ c.steps.i _ _ _ all c.steps.invariant.so_far
     (c.in_ok-finish.ensures.marks ∙ ap (λ (r : Shown). r.signs) c.recorder-2.view_is)
-    (c.in_ok-finish.ensures.lifelines ∙ ap (λ (r : Shown). heads_from 1 r.board.agents) c.recorder-2.view_is)
+    (c.in_ok-finish.ensures.lifelines
+    ∙ ap (λ (r : Shown). heads_from 1 r.board.agents) c.recorder-2.view_is)

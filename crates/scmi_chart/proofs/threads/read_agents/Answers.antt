@@ -12,15 +12,24 @@ use Rattle.scmi_chart.proofs.threads.read_agents.Goals as goal
 
 pub returns-clause-scripts : goal.returns-clause-scripts
 returns-clause-scripts c =
-    let counted : c.in_ok-agent_count.field-0 ≡ length (asked_board c.in_ok-board.board).agents = c.in_ok-agent_count.ensures.agents ∙ sym (length-map c.in_ok-board.board.agents.items string_bytes) in
-    subst (λ (n : ℕ). AreScriptsOf n c.in_ok-scripts.scripts.items) counted (scripts_of_agents c.in_ok-agent_count.field-0 c.in_ok-scripts.scripts.items c.in_ok-scripts.ensures.agents c.in_ok-scripts.ensures.distinct)
+    let counted : c.in_ok-agent_count.field-0 ≡ length (asked_board c.in_ok-board.board).agents =
+    c.in_ok-agent_count.ensures.agents
+    ∙ sym (length-map c.in_ok-board.board.agents.items string_bytes) in
+    subst (λ (n : ℕ). AreScriptsOf n c.in_ok-scripts.scripts.items) counted
+    (scripts_of_agents c.in_ok-agent_count.field-0 c.in_ok-scripts.scripts.items
+    c.in_ok-scripts.ensures.agents c.in_ok-scripts.ensures.distinct)
 
 pub returns-clause-input : goal.returns-clause-input
 returns-clause-input c =
-    let same = lines_same c.new-lines.result c.args.bytes.now c.new-lines.ensures.rest c.new-lines.ensures.number in
-    let counted : c.in_ok-agent_count.field-0 ≡ length (asked_board c.in_ok-board.board).agents = c.in_ok-agent_count.ensures.agents ∙ sym (length-map c.in_ok-board.board.agents.items string_bytes) in
+    let same = lines_same c.new-lines.result c.args.bytes.now c.new-lines.ensures.rest
+    c.new-lines.ensures.number in
+    let counted : c.in_ok-agent_count.field-0 ≡ length (asked_board c.in_ok-board.board).agents =
+    c.in_ok-agent_count.ensures.agents
+    ∙ sym (length-map c.in_ok-board.board.agents.items string_bytes) in
     record {
       lines = lines_left c.read_board.new.lines;
       is_board = ap board_left (sym same) ∙ c.in_ok-board.ensures.board;
-      are_scripts = subst (λ (n : ℕ). after_lines (with_line n) [] (lines_left c.read_board.new.lines) ≡ Ok (scripts_of c.in_ok-scripts.scripts.items)) counted c.in_ok-scripts.ensures.scripts;
+      are_scripts =
+          subst (λ (n : ℕ). after_lines (with_line n) [] (lines_left c.read_board.new.lines)
+          ≡ Ok (scripts_of c.in_ok-scripts.scripts.items)) counted c.in_ok-scripts.ensures.scripts;
     }

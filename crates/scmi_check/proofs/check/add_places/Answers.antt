@@ -8,7 +8,10 @@ places-preserved c =
       board = c.add_place.ensures.board ∙ before.board;
       unseen = c.add_place.ensures.unseen ∙ before.unseen;
       knows = c.add_place.ensures.knows [] before.knows;
-      places = let one = c.in_ok-add_place.ensures.place in let so_far = before.places in omega (arith, one, so_far);
+      places =
+          let one = c.in_ok-add_place.ensures.place in
+          let so_far = before.places in
+          omega (arith, one, so_far);
     }
 
 pub kept-preserved : goal.kept-preserved

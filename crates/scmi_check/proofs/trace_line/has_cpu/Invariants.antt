@@ -3,7 +3,8 @@ use Rattle.scmi_check.specs.TraceLine.{has_cpu}
 use Rattle.scmi_check.proofs.trace_line.has_cpu.Given as goal
 
 abbrev pub invariant-items : goal.invariant-items
-invariant-items l = has_cpu (map (λ item. item.now) l.rest) ≡ has_cpu (map (λ item. item.now) l.items)
+invariant-items l =
+    has_cpu (map (λ item. item.now) l.rest) ≡ has_cpu (map (λ item. item.now) l.items)
 
 abbrev pub decreases-items : goal.decreases-items
 decreases-items l = length l.rest

@@ -5,4 +5,6 @@ use Rattle.scmi_decode.specs.Dump.{is_gap}
 use Rattle.scmi_check.proofs.trace_line.items_of.Goals as goal
 
 pub returns : goal.returns
-returns c = map_from_collect _ c.collect.ensures.ran (YieldsList-from_slice_split _ is_gap c.args.line.now c.split.ensures.rest c.split.ensures.done c.split.ensures.closure (λ x b q k. search (rules, tests)))
+returns c = map_from_collect _ c.collect.ensures.ran
+    (YieldsList-from_slice_split _ is_gap c.args.line.now c.split.ensures.rest c.split.ensures.done
+    c.split.ensures.closure (λ x b q k. search (rules, tests)))

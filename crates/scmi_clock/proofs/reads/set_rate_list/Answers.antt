@@ -7,7 +7,8 @@ use Rattle.scmi_clock.specs.ClockReply.{rates_word}
 use Rattle.scmi_clock.proofs.reads.set_rate_list.Goals as goal
 
 -- two words that were written after others
-two_more : (words : List ℕ) (n x y : ℕ) → n + 1 < length words → take (n + 2) (set (set words n x) (n + 1) y) ≡ take n words ++ x ∷ y ∷ []
+two_more : (words : List ℕ) (n x y : ℕ) → n + 1 < length words
+    → take (n + 2) (set (set words n x) (n + 1) y) ≡ take n words ++ x ∷ y ∷ []
 two_more words n x y fits =
     let next : n + 2 ≡ n + 1 + 1 = omega arith in
     ap (λ k. take k (set (set words n x) (n + 1) y)) next
@@ -17,7 +18,8 @@ two_more words n x y fits =
 
 -- the words of one more rate
 one_more : (rates : List ℕ) (i : ℕ) → i < length rates
-    → flat_map rate_words (take (i + 1) rates) ≡ flat_map rate_words (take i rates) ++ rate_words (get_or rates i 0)
+    → flat_map rate_words (take (i + 1) rates)
+    ≡ flat_map rate_words (take i rates) ++ rate_words (get_or rates i 0)
 one_more rates i within =
     ap (flat_map rate_words) (take_more rates i 0 within)
     ∙ flat_map-append rate_words (take i rates) (get_or rates i 0 ∷ [])
@@ -33,9 +35,11 @@ loop-rate-preserved c =
     let most = c.min-count.ensures in
     let room = c.most_rates.ensures.few in
     let most_words = c.requires.channel.1 in
-    let returned = length-take (c.args.index + count - c.args.index) (drop c.args.index c.args.list.now) in
+    let returned =
+    length-take (c.args.index + count - c.args.index) (drop c.args.index c.args.list.now) in
     let within = c.loop-rate-test.true in
-    let fits : l.size + 1 < length l.words = omega (arith, most, room, most_words, returned, within, l.invariant.place, l.invariant.whole) in
+    let fits : l.size + 1 < length l.words = omega
+    (arith, most, room, most_words, returned, within, l.invariant.place, l.invariant.whole) in
     record {
       place = omega (arith, l.invariant.place);
       whole = simp length-set l.invariant.whole;
@@ -49,7 +53,8 @@ loop-rate-preserved c =
 pub loop-rate-init : goal.loop-rate-init
 loop-rate-init c =
     let blank = c.as_mut_slice-words.result.now in
-    let long : length blank ≡ 2 + 2 * c.min-count.result = ap length c.as_mut_slice-words.ensures.value ∙ c.resize.ensures in
+    let long : length blank ≡ 2 + 2 * c.min-count.result =
+    ap length c.as_mut_slice-words.ensures.value ∙ c.resize.ensures in
     record {
       place = refl;
       whole = simp length-set long;

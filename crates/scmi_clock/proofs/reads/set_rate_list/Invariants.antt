@@ -8,5 +8,6 @@ abbrev pub invariant-loop-rate : goal.invariant-loop-rate
 invariant-loop-rate l = record {
   place : l.size ≡ 2 + 2 * l.rate-index;
   whole : length l.words ≡ 2 + 2 * l.count;
-  so_far : take l.size l.words ≡ 0 ∷ rates_word (l.left - l.count) l.count ∷ flat_map rate_words (take l.rate-index l.returned);
+  so_far : take l.size l.words ≡ 0 ∷ rates_word (l.left - l.count) l.count
+      ∷ flat_map rate_words (take l.rate-index l.returned);
 }

@@ -6,11 +6,14 @@ use Rattle.scmi_clock.proofs.rounding.list_below.Goals as goal
 pub returns-in-0 : goal.returns-in-0
 returns-in-0 c =
     let parted = IsPartitionedBy-leb (λ x. x) _ c.args.asked (rising c.args.list.now c.requires) in
-    let point = IsPartitionPoint-from_clause (λ y. nat_le y c.args.asked) _ _ c.partition_point.ensures.partitioned parted (λ a r f k. search rules) in
+    let point = IsPartitionPoint-from_clause (λ y. nat_le y c.args.asked) _ _
+    c.partition_point.ensures.partitioned parted (λ a r f k. search rules) in
     below_start c.args.list.now c.args.asked c.partition_point.result point (omega arith)
 
 pub returns-in_default : goal.returns-in_default
 returns-in_default c =
     let parted = IsPartitionedBy-leb (λ x. x) _ c.args.asked (rising c.args.list.now c.requires) in
-    let point = IsPartitionPoint-from_clause (λ y. nat_le y c.args.asked) _ _ c.partition_point.ensures.partitioned parted (λ a r f k. search rules) in
-    below_inside c.args.list.now c.args.asked c.partition_point.result point (omega arith) c.partition_point.ensures.bound
+    let point = IsPartitionPoint-from_clause (λ y. nat_le y c.args.asked) _ _
+    c.partition_point.ensures.partitioned parted (λ a r f k. search rules) in
+    below_inside c.args.list.now c.args.asked c.partition_point.result point
+    (omega arith) c.partition_point.ensures.bound

@@ -10,4 +10,5 @@ returns-in-Released-clause-stands c =
     (λ words few. StandsWithin-status words c.args.area.now 1 (omega arith) (omega arith))
 
 pub returns-in-ChannelError-clause-stands : goal.returns-in-ChannelError-clause-stands
-returns-in-ChannelError-clause-stands c = rw c.in-ChannelError.is (λ words few. c.put_error.ensures.stands words)
+returns-in-ChannelError-clause-stands c =
+    rw c.in-ChannelError.is (λ words few. c.put_error.ensures.stands words)

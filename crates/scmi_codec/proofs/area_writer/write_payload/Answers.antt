@@ -8,7 +8,8 @@ returns-then-count-eq1-clause-written c =
 
 pub returns-then-count-eq2-clause-written : goal.returns-then-count-eq2-clause-written
 returns-then-count-eq2-clause-written c =
-    rw (c.write_word-2.ensures, c.write_word.ensures) (write-two c.args.words.now c.args.area.now c.if-count-eq2.true)
+    rw (c.write_word-2.ensures, c.write_word.ensures)
+    (write-two c.args.words.now c.args.area.now c.if-count-eq2.true)
 
 pub returns-clause-written : goal.returns-clause-written
 returns-clause-written c =

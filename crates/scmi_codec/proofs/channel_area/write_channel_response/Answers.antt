@@ -7,4 +7,5 @@ pub returns-clause-stands : goal.returns-clause-stands
 returns-clause-stands c =
     let room = has_room _ c.args.area.now (sym c.in_ok-check_room.ensures) in
     let words = rw c.as_slice-words.ensures.value at room in
-    rw c.as_slice-words.ensures.value at (c.put_response.ensures.stands (capacity c.args.area.now) room)
+    rw c.as_slice-words.ensures.value at
+    (c.put_response.ensures.stands (capacity c.args.area.now) room)

@@ -3,7 +3,8 @@ use Rattle.scmi_codec.specs.Listing.{protocol_said, protocol_in}
 use Rattle.scmi_codec.proofs.protocols.protocol_in.Given as goal
 
 abbrev pub invariant-loop-rows : goal.invariant-loop-rows
-invariant-loop-rows l = protocol_in l.id (map protocol_said l.rows) ≡ protocol_in l.id (map protocol_said l.initial.rows)
+invariant-loop-rows l = protocol_in l.id (map protocol_said l.rows)
+    ≡ protocol_in l.id (map protocol_said l.initial.rows)
 
 abbrev pub decreases-loop-rows : goal.decreases-loop-rows
 decreases-loop-rows l = length l.rows

@@ -11,8 +11,13 @@ bytes-preserved c =
     let back : c.bytes.place < length (reverse c.args.bytes.now) = rw (list.length-reverse) more in
     record {
       straight = elim c.if-is_number.branch [
-        | then-is_number w ↦ rw w.if-is_number.true (items.cell_more false c.bytes.cells.items _ _ _ (reverse c.args.bytes.now) c.bytes.place back c.in_ok-push.ensures.items (w.straight-is ∙ sym turned) (rw w.if-is_number.true at c.bytes.invariant.straight))
-        | else-is_number w ↦ rw w.if-is_number.false (items.cell_more false c.bytes.cells.items _ _ _ c.args.bytes.now c.bytes.place more c.in_ok-push.ensures.items w.straight-is (rw w.if-is_number.false at c.bytes.invariant.straight))
+        | then-is_number w ↦ rw w.if-is_number.true (items.cell_more false c.bytes.cells.items _ _ _
+            (reverse c.args.bytes.now) c.bytes.place back c.in_ok-push.ensures.items
+            (w.straight-is ∙ sym turned) (rw w.if-is_number.true at c.bytes.invariant.straight))
+        | else-is_number w ↦ rw w.if-is_number.false (items.cell_more false c.bytes.cells.items
+            _ _ _ c.args.bytes.now c.bytes.place more c.in_ok-push.ensures.items w.straight-is
+            (rw w.if-is_number.false at c.bytes.invariant.straight))
       ];
-      turned = items.cell_more true c.bytes.cells.items _ _ _ (reverse c.args.bytes.now) c.bytes.place back c.in_ok-push.ensures.items (sym turned) c.bytes.invariant.turned;
+      turned = items.cell_more true c.bytes.cells.items _ _ _ (reverse c.args.bytes.now)
+          c.bytes.place back c.in_ok-push.ensures.items (sym turned) c.bytes.invariant.turned;
     }

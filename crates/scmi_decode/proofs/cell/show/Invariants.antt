@@ -4,7 +4,9 @@ use Rattle.scmi_decode.proofs.cell.show.Given as goal
 
 abbrev pub invariant-cells : goal.invariant-cells
 invariant-cells l = record {
-  all : take l.place l.cells.items ++ cells_of (bytes_in false (drop l.place l.cells.items)) (bytes_in true (drop l.place l.cells.items)) l.rest
-      ≡ cells_of (bytes_in false l.initial.cells.items) (bytes_in true l.initial.cells.items) l.shown;
+  all : take l.place l.cells.items ++ cells_of (bytes_in false (drop l.place l.cells.items))
+      (bytes_in true (drop l.place l.cells.items)) l.rest
+      ≡ cells_of (bytes_in false l.initial.cells.items)
+      (bytes_in true l.initial.cells.items) l.shown;
   same : length l.cells.items ≡ length l.initial.cells.items;
 }

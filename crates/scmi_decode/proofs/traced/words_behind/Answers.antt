@@ -12,5 +12,8 @@ words-preserved c =
     let bytes = c.words.rest.now in
     let few : length words < PAYLOAD_WORDS = search rules in
     let more = words_more words bytes c.in-len4-up.len_at_least few in
-    let rest : take (length bytes - 4) (drop 4 bytes) ≡ drop 4 bytes = ap (λ n. take n (drop 4 bytes)) (sym (length-drop 4 bytes)) ∙ take-length (drop 4 bytes) in
-    ap (words_behind c.push.new.self.items) rest ∙ ap (λ all. words_behind all (drop 4 bytes)) (c.push.ensures.items ∙ ap (λ word. words ++ word ∷ []) c.word_of.ensures) ∙ sym more ∙ c.words.invariant
+    let rest : take (length bytes - 4) (drop 4 bytes) ≡ drop 4 bytes =
+    ap (λ n. take n (drop 4 bytes)) (sym (length-drop 4 bytes)) ∙ take-length (drop 4 bytes) in
+    ap (words_behind c.push.new.self.items) rest ∙ ap (λ all. words_behind all (drop 4 bytes))
+    (c.push.ensures.items ∙ ap (λ word. words ++ word ∷ []) c.word_of.ensures) ∙ sym more
+    ∙ c.words.invariant

@@ -8,5 +8,6 @@ abbrev pub invariant-pieces : goal.invariant-pieces
 invariant-pieces g l =
     let contents = g.W.Write.contents in
     let text = g.P.Piece.text in
-    (after : Option (List ℕ)) → Appends (contents l.writer) after (filled l.rest (map text (drop l.piece-index l.pieces)))
+    (after : Option (List ℕ))
+    → Appends (contents l.writer) after (filled l.rest (map text (drop l.piece-index l.pieces)))
     → Appends (contents l.fn.writer) after (filled l.text (map text l.pieces))

@@ -7,7 +7,8 @@ invariant-tries g l = record {
   left : Keeps (g.R.CountedRead.remaining l.fn.reader) (g.R.CountedRead.remaining l.reader);
   none : l.ahead ≡ [];
   count : g.R.CountedRead.reads l.reader + l.tries ≤ g.R.CountedRead.reads l.fn.reader + l.fn.tries;
-  stops : g.R.CountedRead.since_failure l.fn.reader ≡ 0 → g.R.CountedRead.since_failure l.reader ≡ 0;
+  stops : g.R.CountedRead.since_failure l.fn.reader ≡ 0
+      → g.R.CountedRead.since_failure l.reader ≡ 0;
 }
 
 abbrev pub decreases-tries : goal.decreases-tries

@@ -3,5 +3,6 @@ use Rattle.scmi_judge.proofs.guess.copy_commands.Goals as goal
 
 pub returns : goal.returns
 returns c =
-    eight-same c.places.commands c.args.others.now _ c.places.invariant.long c.type_inv.others c.places-test.false
+    eight-same c.places.commands c.args.others.now _ c.places.invariant.long c.type_inv.others
+    c.places-test.false
     c.places.invariant.same

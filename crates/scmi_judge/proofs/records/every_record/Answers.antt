@@ -8,6 +8,7 @@ returns c =
       answers = λ may board entries moves behind all a. answers-shown may board behind all a;
       messages = λ may board entries moves behind legal a. messages-shown may board behind legal a;
       no_restart = λ may board entries moves behind never. no-restarts may board never behind;
-      at_once = λ may board entries moves behind all. (events-alone may board behind all, λ k. none-outstanding may board behind all k);
+      at_once = λ may board entries moves behind all.
+          (events-alone may board behind all, λ k. none-outstanding may board behind all k);
       told = λ may board entries moves behind. told-shown may board behind;
     }

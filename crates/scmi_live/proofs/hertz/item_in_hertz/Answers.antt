@@ -11,11 +11,16 @@ pub loop-rate-preserved : goal.loop-rate-preserved
 loop-rate-preserved c = record {
   can = search rules;
   ends = search rules;
-  so_far = on_borrowed 44 rate_in_hertz c.loop-rate.yielded c.in-Some.rate c.loop-rate.made.items c.add_byte.new.made.items c.extend_from_slice.new.self.items c.loop-rate.is_first c.loop-rate.invariant.so_far c.in_ok-add_byte.ensures (search rules);
+  so_far = on_borrowed 44 rate_in_hertz c.loop-rate.yielded c.in-Some.rate c.loop-rate.made.items
+      c.add_byte.new.made.items c.extend_from_slice.new.self.items c.loop-rate.is_first
+      c.loop-rate.invariant.so_far c.in_ok-add_byte.ensures (search rules);
 }
 
 pub returns : goal.returns
 returns c =
-    let parts = YieldsList-from_slice_split _ is_comma c.args.item.now (cc) (cc) (cc) (λ x b q k. search (rules, tests)) in
-    let ended = YieldsList-end parts c.loop-rate.yielded _ c.loop-rate.yielded_by _ _ c.in-None.is c.next.ensures.steps in
-    c.loop-rate.invariant.so_far.joined ∙ ap (λ (all : List (List ℕ)). join_with_byte 44 (map rate_in_hertz all)) ended.0
+    let parts = YieldsList-from_slice_split _ is_comma c.args.item.now (cc) (cc) (cc)
+    (λ x b q k. search (rules, tests)) in
+    let ended = YieldsList-end parts c.loop-rate.yielded _ c.loop-rate.yielded_by _ _ c.in-None.is
+    c.next.ensures.steps in
+    c.loop-rate.invariant.so_far.joined
+    ∙ ap (λ (all : List (List ℕ)). join_with_byte 44 (map rate_in_hertz all)) ended.0

@@ -11,11 +11,16 @@ pub loop-line-preserved : goal.loop-line-preserved
 loop-line-preserved c = record {
   can = search rules;
   ends = search rules;
-  so_far = on_borrowed 10 line_in_hertz c.loop-line.yielded c.in-Some.line c.loop-line.made.items c.add_byte.new.made.items c.extend_from_slice.new.self.items c.loop-line.is_first c.loop-line.invariant.so_far c.in_ok-add_byte.ensures (search rules);
+  so_far = on_borrowed 10 line_in_hertz c.loop-line.yielded c.in-Some.line c.loop-line.made.items
+      c.add_byte.new.made.items c.extend_from_slice.new.self.items c.loop-line.is_first
+      c.loop-line.invariant.so_far c.in_ok-add_byte.ensures (search rules);
 }
 
 pub returns : goal.returns
 returns c =
-    let parts = YieldsList-from_slice_split _ is_line_feed c.args.text.now (cc) (cc) (cc) (λ x b q k. search (rules, tests)) in
-    let ended = YieldsList-end parts c.loop-line.yielded _ c.loop-line.yielded_by _ _ c.in-None.is c.next.ensures.steps in
-    c.loop-line.invariant.so_far.joined ∙ ap (λ (all : List (List ℕ)). join_with_byte 10 (map line_in_hertz all)) ended.0
+    let parts = YieldsList-from_slice_split _ is_line_feed c.args.text.now (cc) (cc) (cc)
+    (λ x b q k. search (rules, tests)) in
+    let ended = YieldsList-end parts c.loop-line.yielded _ c.loop-line.yielded_by _ _ c.in-None.is
+    c.next.ensures.steps in
+    c.loop-line.invariant.so_far.joined
+    ∙ ap (λ (all : List (List ℕ)). join_with_byte 10 (map line_in_hertz all)) ended.0

@@ -9,4 +9,5 @@ pub returns : goal.returns
 returns c =
     let item = map to_ascii_lowercase c.args.item.now in
     let word = map to_ascii_lowercase c.args.word.now in
-    same_from_decides c.eq_ignore_ascii_case.result (bytes_eq item word) c.eq_ignore_ascii_case.ensures.test (bytes_eq-Decides item word)
+    same_from_decides c.eq_ignore_ascii_case.result
+    (bytes_eq item word) c.eq_ignore_ascii_case.ensures.test (bytes_eq-Decides item word)

@@ -10,11 +10,18 @@ pub loop-line-preserved : goal.loop-line-preserved
 loop-line-preserved c = record {
   can = search rules;
   ends = search rules;
-  so_far = on_yielded (asked_board c.args.board.now) c.args.agents c.loop-line.yielded c.in-Some.line c.loop-line.is_first c.loop-line.made.items c.add_byte.new.made.items c.add_line.new.made.items c.loop-line.invariant.so_far c.in_ok-add_byte.ensures c.in_ok-add_line.ensures;
+  so_far = on_yielded (asked_board c.args.board.now) c.args.agents c.loop-line.yielded
+      c.in-Some.line c.loop-line.is_first c.loop-line.made.items c.add_byte.new.made.items
+      c.add_line.new.made.items c.loop-line.invariant.so_far c.in_ok-add_byte.ensures
+      c.in_ok-add_line.ensures;
 }
 
 pub returns : goal.returns
 returns c =
-    let parts = YieldsList-from_slice_split _ is_line_feed c.args.text.now (cc) (cc) (cc) (λ x b q k. search (rules, tests)) in
-    let ended = YieldsList-end parts c.loop-line.yielded _ c.loop-line.yielded_by _ _ c.in-None.is c.next.ensures.steps in
-    at_end (asked_board c.args.board.now) c.args.agents (map (λ x. x.now) c.loop-line.yielded) c.loop-line.is_first c.args.text.now c.loop-line.made.items ended.0 c.loop-line.invariant.so_far
+    let parts = YieldsList-from_slice_split _ is_line_feed c.args.text.now (cc) (cc) (cc)
+    (λ x b q k. search (rules, tests)) in
+    let ended = YieldsList-end parts c.loop-line.yielded _ c.loop-line.yielded_by _ _ c.in-None.is
+    c.next.ensures.steps in
+    at_end (asked_board c.args.board.now) c.args.agents
+    (map (λ x. x.now) c.loop-line.yielded) c.loop-line.is_first c.args.text.now
+    c.loop-line.made.items ended.0 c.loop-line.invariant.so_far

@@ -38,18 +38,27 @@ size_of_input input.Read same = absurd cc
 size_of_input input.Memory same = absurd cc
 
 -- what a line gives, from what the listener had before it was made ready
-at_ready : (full : Bool) (Shows : CallerView → Result Closing CloseError → Type 0) (text : List ℕ) (before after : LiveView) (now ready now' : Option (List Heard)) → ready ≡ now → Answers full Shows text before after ready now' → Answers full Shows text before after now now'
-at_ready full Shows text before after now ready now' same by = subst (λ n. Answers full Shows text before after n now') same by
+at_ready : (full : Bool) (Shows : CallerView → Result Closing CloseError → Type 0) (text : List ℕ)
+    (before after : LiveView) (now ready now' : Option (List Heard)) → ready ≡ now → Answers full
+    Shows text before after ready now' → Answers full Shows text before after now now'
+at_ready full Shows text before after now ready now' same by =
+    subst (λ n. Answers full Shows text before after n now') same by
 
 pub lines-init : goal.lines-init
 lines-init g c = record {
-  way = at_begin g.C.Channel.FULL (ShowsClose g.C.Channel.caller_view g.C.Channel.close_shows) (described c.args.board.now) c.args.plan c.args.input.now.left c.in_ok-live.live (g.L.Listener.heard c.args.listener.now) c.requires c.in_ok-live.ensures.board c.in_ok-live.ensures.agents c.in_ok-live.ensures.new;
+  way = at_begin g.C.Channel.FULL (ShowsClose g.C.Channel.caller_view g.C.Channel.close_shows)
+      (described c.args.board.now) c.args.plan c.args.input.now.left c.in_ok-live.live
+      (g.L.Listener.heard c.args.listener.now) c.requires c.in_ok-live.ensures.board
+      c.in_ok-live.ensures.agents c.in_ok-live.ensures.new;
   answered =
       let F = g.C.Channel.FULL in
       let S = ShowsClose g.C.Channel.caller_view g.C.Channel.close_shows in
       let said = described c.args.board.now in
-      let count = agents_count F S said c.args.plan c.in_ok-live.live.agents c.requires c.in_ok-live.ensures.agents in
-      none_yet F S said c.args.input.now.left c.in_ok-live.live (g.L.Listener.heard c.args.listener.now) c.in_ok-live.ensures.board count (subst (λ b. IsNewSession b c.in_ok-live.live.session) c.requires c.in_ok-live.ensures.new);
+      let count = agents_count F S said c.args.plan c.in_ok-live.live.agents c.requires
+      c.in_ok-live.ensures.agents in
+      none_yet F S said c.args.input.now.left c.in_ok-live.live
+      (g.L.Listener.heard c.args.listener.now) c.in_ok-live.ensures.board count (subst
+      (λ b. IsNewSession b c.in_ok-live.live.session) c.requires c.in_ok-live.ensures.new);
   stops = λ none. none;
 }
 
@@ -57,17 +66,39 @@ pub lines-preserved : goal.lines-preserved
 lines-preserved g c =
     let same : c.as_slice.result.now ≡ c.read_line.new.line.items = cc in
     let first : IfSome c.lines.input.left (λ input. c.as_slice.result.now ≡ first_line input) =
-    subst (λ (l : List ℕ). IfSome c.lines.input.left (λ input. l ≡ first_line input)) (sym same) c.in_ok-ended.ensures.line in
-    let is_ended : c.in_ok-ended.ended ≡ true = first_of (search (rules, tests), grind (arith, nat_tests), cc) in
-    let is_on : c.in_ok-goes_on.goes_on ≡ true = first_of (search (rules, tests), grind (arith, nat_tests), cc) in
-    let on : goes_on (line_meant c.lines.live.board c.lines.live.agents c.as_slice.result.now) ≡ true = sym c.in_ok-goes_on.ensures.goes_on ∙ is_on in
+    subst (λ (l : List ℕ). IfSome c.lines.input.left (λ input. l ≡ first_line input))
+    (sym same) c.in_ok-ended.ensures.line in
+    let is_ended : c.in_ok-ended.ended ≡ true =
+    first_of (search (rules, tests), grind (arith, nat_tests), cc) in
+    let is_on : c.in_ok-goes_on.goes_on ≡ true =
+    first_of (search (rules, tests), grind (arith, nat_tests), cc) in
+    let on : goes_on (line_meant c.lines.live.board c.lines.live.agents c.as_slice.result.now)
+    ≡ true = sym c.in_ok-goes_on.ensures.goes_on ∙ is_on in
     record {
-      way = one_more g.C.Channel.FULL (ShowsClose g.C.Channel.caller_view g.C.Channel.close_shows) (described c.args.board.now) c.args.input.now.left c.lines.input.left c.read_line.new.self.left c.as_slice.result.now c.lines.live c.answer.new.self c.in_ok-ended.ended
-          (g.L.Listener.heard c.args.listener.now) (g.L.Listener.heard c.lines.listener) (g.L.Listener.heard c.answer.new.listener)
-          c.lines.invariant.way first c.in_ok-ended.ensures.rest c.in_ok-ended.ensures.ended is_ended on (at_ready g.C.Channel.FULL (ShowsClose g.C.Channel.caller_view g.C.Channel.close_shows) c.as_slice.result.now c.lines.live c.answer.new.self (g.L.Listener.heard c.lines.listener) (g.L.Listener.heard c.ready.new.self) (g.L.Listener.heard c.answer.new.listener) c.ready.ensures c.in_ok-goes_on.ensures.answers);
-      answered = more_answered g.C.Channel.FULL (ShowsClose g.C.Channel.caller_view g.C.Channel.close_shows) (described c.args.board.now) c.args.input.now.left c.lines.input.left c.read_line.new.self.left c.as_slice.result.now c.lines.number c.lines.live c.answer.new.self c.in_ok-ended.ended
-          (g.L.Listener.heard c.args.listener.now) (g.L.Listener.heard c.lines.listener) (g.L.Listener.heard c.answer.new.listener)
-          c.lines.invariant.answered first c.in_ok-ended.ensures.rest c.in_ok-ended.ensures.ended is_ended on (at_ready g.C.Channel.FULL (ShowsClose g.C.Channel.caller_view g.C.Channel.close_shows) c.as_slice.result.now c.lines.live c.answer.new.self (g.L.Listener.heard c.lines.listener) (g.L.Listener.heard c.ready.new.self) (g.L.Listener.heard c.answer.new.listener) c.ready.ensures c.in_ok-goes_on.ensures.answers);
+      way = one_more g.C.Channel.FULL (ShowsClose g.C.Channel.caller_view g.C.Channel.close_shows)
+          (described c.args.board.now) c.args.input.now.left c.lines.input.left
+          c.read_line.new.self.left c.as_slice.result.now c.lines.live c.answer.new.self
+          c.in_ok-ended.ended
+          (g.L.Listener.heard c.args.listener.now) (g.L.Listener.heard c.lines.listener)
+          (g.L.Listener.heard c.answer.new.listener)
+          c.lines.invariant.way first c.in_ok-ended.ensures.rest
+          c.in_ok-ended.ensures.ended is_ended on (at_ready g.C.Channel.FULL
+          (ShowsClose g.C.Channel.caller_view g.C.Channel.close_shows) c.as_slice.result.now
+          c.lines.live c.answer.new.self (g.L.Listener.heard c.lines.listener)
+          (g.L.Listener.heard c.ready.new.self) (g.L.Listener.heard c.answer.new.listener)
+          c.ready.ensures c.in_ok-goes_on.ensures.answers);
+      answered = more_answered g.C.Channel.FULL
+          (ShowsClose g.C.Channel.caller_view g.C.Channel.close_shows) (described c.args.board.now)
+          c.args.input.now.left c.lines.input.left c.read_line.new.self.left c.as_slice.result.now
+          c.lines.number c.lines.live c.answer.new.self c.in_ok-ended.ended
+          (g.L.Listener.heard c.args.listener.now) (g.L.Listener.heard c.lines.listener)
+          (g.L.Listener.heard c.answer.new.listener)
+          c.lines.invariant.answered first c.in_ok-ended.ensures.rest
+          c.in_ok-ended.ensures.ended is_ended on (at_ready g.C.Channel.FULL
+          (ShowsClose g.C.Channel.caller_view g.C.Channel.close_shows) c.as_slice.result.now
+          c.lines.live c.answer.new.self (g.L.Listener.heard c.lines.listener)
+          (g.L.Listener.heard c.ready.new.self) (g.L.Listener.heard c.answer.new.listener)
+          c.ready.ensures c.in_ok-goes_on.ensures.answers);
       stops = λ none. c.in_ok-ended.ensures.stops (c.lines.invariant.stops none);
     }
 
@@ -75,43 +106,68 @@ pub returns-then-not-goes_on-clause-session : goal.returns-then-not-goes_on-clau
 returns-then-not-goes_on-clause-session g c =
     let same : c.as_slice.result.now ≡ c.read_line.new.line.items = cc in
     let first : IfSome c.lines.input.left (λ input. c.as_slice.result.now ≡ first_line input) =
-    subst (λ (l : List ℕ). IfSome c.lines.input.left (λ input. l ≡ first_line input)) (sym same) c.in_ok-ended.ensures.line in
-    let is_off : c.in_ok-goes_on.goes_on ≡ false = first_of (search (rules, tests), grind (arith, nat_tests), cc) in
-    let off : goes_on (line_meant c.lines.live.board c.lines.live.agents c.as_slice.result.now) ≡ false = sym c.in_ok-goes_on.ensures.goes_on ∙ is_off in
+    subst (λ (l : List ℕ). IfSome c.lines.input.left (λ input. l ≡ first_line input))
+    (sym same) c.in_ok-ended.ensures.line in
+    let is_off : c.in_ok-goes_on.goes_on ≡ false =
+    first_of (search (rules, tests), grind (arith, nat_tests), cc) in
+    let off : goes_on (line_meant c.lines.live.board c.lines.live.agents c.as_slice.result.now)
+    ≡ false = sym c.in_ok-goes_on.ensures.goes_on ∙ is_off in
     on_ok c.end.result c.end.ensures.heard (λ heard.
-    at_quit g.C.Channel.FULL (ShowsClose g.C.Channel.caller_view g.C.Channel.close_shows) (described c.args.board.now) c.args.input.now.left c.lines.input.left c.as_slice.result.now c.lines.live c.answer.new.self c.in_ok-ended.ended
-    (g.L.Listener.heard c.args.listener.now) (g.L.Listener.heard c.lines.listener) (g.L.Listener.heard c.answer.new.listener) (g.L.Listener.heard c.end.new.listener)
-    c.lines.invariant.way first c.in_ok-ended.ensures.ended off (at_ready g.C.Channel.FULL (ShowsClose g.C.Channel.caller_view g.C.Channel.close_shows) c.as_slice.result.now c.lines.live c.answer.new.self (g.L.Listener.heard c.lines.listener) (g.L.Listener.heard c.ready.new.self) (g.L.Listener.heard c.answer.new.listener) c.ready.ensures c.in_ok-goes_on.ensures.answers) c.end.ensures.gathered heard)
+    at_quit g.C.Channel.FULL (ShowsClose g.C.Channel.caller_view g.C.Channel.close_shows)
+    (described c.args.board.now) c.args.input.now.left c.lines.input.left c.as_slice.result.now
+    c.lines.live c.answer.new.self c.in_ok-ended.ended
+    (g.L.Listener.heard c.args.listener.now) (g.L.Listener.heard c.lines.listener)
+    (g.L.Listener.heard c.answer.new.listener) (g.L.Listener.heard c.end.new.listener)
+    c.lines.invariant.way first c.in_ok-ended.ensures.ended off
+    (at_ready g.C.Channel.FULL (ShowsClose g.C.Channel.caller_view g.C.Channel.close_shows)
+    c.as_slice.result.now c.lines.live c.answer.new.self (g.L.Listener.heard c.lines.listener)
+    (g.L.Listener.heard c.ready.new.self) (g.L.Listener.heard c.answer.new.listener)
+    c.ready.ensures c.in_ok-goes_on.ensures.answers) c.end.ensures.gathered heard)
 
 pub returns-then-not-ended-clause-session : goal.returns-then-not-ended-clause-session
 returns-then-not-ended-clause-session g c =
     let same : c.as_slice.result.now ≡ c.read_line.new.line.items = cc in
     let first : IfSome c.lines.input.left (λ input. c.as_slice.result.now ≡ first_line input) =
-    subst (λ (l : List ℕ). IfSome c.lines.input.left (λ input. l ≡ first_line input)) (sym same) c.in_ok-ended.ensures.line in
-    let is_last : c.in_ok-ended.ended ≡ false = first_of (search (rules, tests), grind (arith, nat_tests), cc) in
-    let is_on : c.in_ok-goes_on.goes_on ≡ true = first_of (search (rules, tests), grind (arith, nat_tests), cc) in
-    let on : goes_on (line_meant c.lines.live.board c.lines.live.agents c.as_slice.result.now) ≡ true = sym c.in_ok-goes_on.ensures.goes_on ∙ is_on in
+    subst (λ (l : List ℕ). IfSome c.lines.input.left (λ input. l ≡ first_line input))
+    (sym same) c.in_ok-ended.ensures.line in
+    let is_last : c.in_ok-ended.ended ≡ false =
+    first_of (search (rules, tests), grind (arith, nat_tests), cc) in
+    let is_on : c.in_ok-goes_on.goes_on ≡ true =
+    first_of (search (rules, tests), grind (arith, nat_tests), cc) in
+    let on : goes_on (line_meant c.lines.live.board c.lines.live.agents c.as_slice.result.now)
+    ≡ true = sym c.in_ok-goes_on.ensures.goes_on ∙ is_on in
     on_ok c.end-then-not-ended.result c.end-then-not-ended.ensures.heard (λ heard.
-    at_last g.C.Channel.FULL (ShowsClose g.C.Channel.caller_view g.C.Channel.close_shows) (described c.args.board.now) c.args.input.now.left c.lines.input.left c.as_slice.result.now c.lines.live c.answer.new.self c.in_ok-ended.ended
-    (g.L.Listener.heard c.args.listener.now) (g.L.Listener.heard c.lines.listener) (g.L.Listener.heard c.answer.new.listener) (g.L.Listener.heard c.end-then-not-ended.new.listener)
-    c.lines.invariant.way first c.in_ok-ended.ensures.ended is_last on (at_ready g.C.Channel.FULL (ShowsClose g.C.Channel.caller_view g.C.Channel.close_shows) c.as_slice.result.now c.lines.live c.answer.new.self (g.L.Listener.heard c.lines.listener) (g.L.Listener.heard c.ready.new.self) (g.L.Listener.heard c.answer.new.listener) c.ready.ensures c.in_ok-goes_on.ensures.answers) c.end-then-not-ended.ensures.gathered heard)
+    at_last g.C.Channel.FULL (ShowsClose g.C.Channel.caller_view g.C.Channel.close_shows)
+    (described c.args.board.now) c.args.input.now.left c.lines.input.left c.as_slice.result.now
+    c.lines.live c.answer.new.self c.in_ok-ended.ended
+    (g.L.Listener.heard c.args.listener.now)
+    (g.L.Listener.heard c.lines.listener) (g.L.Listener.heard c.answer.new.listener)
+    (g.L.Listener.heard c.end-then-not-ended.new.listener)
+    c.lines.invariant.way first c.in_ok-ended.ensures.ended is_last on (at_ready g.C.Channel.FULL
+    (ShowsClose g.C.Channel.caller_view g.C.Channel.close_shows) c.as_slice.result.now
+    c.lines.live c.answer.new.self (g.L.Listener.heard c.lines.listener) (g.L.Listener.heard
+    c.ready.new.self) (g.L.Listener.heard c.answer.new.listener) c.ready.ensures
+    c.in_ok-goes_on.ensures.answers) c.end-then-not-ended.ensures.gathered heard)
 
 pub returns-in_err-ended-clause-stops : goal.returns-in_err-ended-clause-stops
 returns-in_err-ended-clause-stops g c =
-    λ none. let p = err_from_is_err_and c.from_residual-in_err-ended.result c.from_residual-in_err-ended.ensures.1 in
+    λ none. let p = err_from_is_err_and c.from_residual-in_err-ended.result
+    c.from_residual-in_err-ended.ensures.1 in
     let h = c.in_err-ended.ensures.stops (c.lines.invariant.stops none) in
     rw (p.1, p.2) (elim h [ inl z ↦ inl z | inr b ↦ inr (b.0, ap fault_of_input b.1) ])
 
 pub returns-in_err-goes_on-clause-stops : goal.returns-in_err-goes_on-clause-stops
 returns-in_err-goes_on-clause-stops g c =
-    λ none. let p = err_from_is_err_and c.from_residual-in_err-goes_on.result c.from_residual-in_err-goes_on.ensures.1 in
+    λ none. let p = err_from_is_err_and c.from_residual-in_err-goes_on.result
+    c.from_residual-in_err-goes_on.ensures.1 in
     rw p.1 (inl (c.in_ok-ended.ensures.stops (c.lines.invariant.stops none)))
 
 pub returns-in_err-live-clause-answered : goal.returns-in_err-live-clause-answered
 returns-in_err-live-clause-answered g c =
     let F = g.C.Channel.FULL in
     let S = ShowsClose g.C.Channel.caller_view g.C.Channel.close_shows in
-    on_any_err c.from_residual.result (none_answered F S (described c.args.board.now) c.args.input.now.left (g.L.Listener.heard c.args.listener.now))
+    on_any_err c.from_residual.result (none_answered F S
+    (described c.args.board.now) c.args.input.now.left (g.L.Listener.heard c.args.listener.now))
 
 pub returns-in_err-ended-clause-answered : goal.returns-in_err-ended-clause-answered
 returns-in_err-ended-clause-answered g c =
@@ -123,8 +179,10 @@ returns-in_err-ended-clause-answered g c =
     let old = g.L.Listener.heard c.args.listener.now in
     let now = g.L.Listener.heard c.lines.listener in
     let ready = g.L.Listener.heard c.ready.new.self in
-    on_any_err c.from_residual-in_err-ended.result (subst (λ n. IfSome whole (λ input. IsStopped F S said input old n)) (sym c.ready.ensures)
-    (first_answered F S said whole left c.lines.number c.lines.live old now c.lines.invariant.answered))
+    on_any_err c.from_residual-in_err-ended.result
+    (subst (λ n. IfSome whole (λ input. IsStopped F S said input old n)) (sym c.ready.ensures)
+    (first_answered F S said whole left c.lines.number c.lines.live old now
+    c.lines.invariant.answered))
 
 pub returns-in_err-ended-clause-size : goal.returns-in_err-ended-clause-size
 returns-in_err-ended-clause-size g c =
@@ -136,10 +194,13 @@ returns-in_err-ended-clause-size g c =
     let old = g.L.Listener.heard c.args.listener.now in
     let now = g.L.Listener.heard c.lines.listener in
     let ready = g.L.Listener.heard c.ready.new.self in
-    λ e. let p = err_from_is_err_and c.from_residual-in_err-ended.result c.from_residual-in_err-ended.ensures.1 in
+    λ e. let p = err_from_is_err_and c.from_residual-in_err-ended.result
+    c.from_residual-in_err-ended.ensures.1 in
     let is_size : p.0 ≡ Size = cc in
-    subst (λ n. IfSome whole (λ input. IsStoppedBefore F S IsTooMuch said input old n)) (sym c.ready.ensures)
-    (before_long F S said whole left c.lines.number c.lines.live old now c.lines.invariant.answered (c.in_err-ended.ensures.size (ap Err (size_of_input _ (sym p.2 ∙ is_size)))))
+    subst (λ n. IfSome whole (λ input. IsStoppedBefore F S IsTooMuch said input old n))
+    (sym c.ready.ensures)
+    (before_long F S said whole left c.lines.number c.lines.live old now c.lines.invariant.answered
+    (c.in_err-ended.ensures.size (ap Err (size_of_input _ (sym p.2 ∙ is_size)))))
 
 pub returns-in_err-ended-clause-read : goal.returns-in_err-ended-clause-read
 returns-in_err-ended-clause-read g c =
@@ -151,7 +212,8 @@ returns-in_err-ended-clause-read g c =
     let old = g.L.Listener.heard c.args.listener.now in
     let now = g.L.Listener.heard c.lines.listener in
     let ready = g.L.Listener.heard c.ready.new.self in
-    λ e. subst (λ n. IfSome whole (λ input. IsStoppedBefore F S (λ _ _. ⊤) said input old n)) (sym c.ready.ensures)
+    λ e. subst (λ n. IfSome whole (λ input. IsStoppedBefore F S (λ _ _. ⊤) said input old n))
+    (sym c.ready.ensures)
     (before_any F S said whole left c.lines.number c.lines.live old now c.lines.invariant.answered)
 
 pub returns-in_err-goes_on-clause-answered : goal.returns-in_err-goes_on-clause-answered
@@ -165,10 +227,15 @@ returns-in_err-goes_on-clause-answered g c =
     let now = g.L.Listener.heard c.lines.listener in
     let line = c.as_slice.result.now in
     let same : line ≡ c.read_line.new.line.items = cc in
-    let first : IfSome left (λ input. line ≡ first_line input) = subst (λ (l : List ℕ). IfSome left (λ input. l ≡ first_line input)) (sym same) c.in_ok-ended.ensures.line in
+    let first : IfSome left (λ input. line ≡ first_line input) = subst (λ (l : List ℕ). IfSome left
+    (λ input. l ≡ first_line input)) (sym same) c.in_ok-ended.ensures.line in
     let now' = g.L.Listener.heard c.answer.new.listener in
-    let stops : StopsAt F S line c.lines.live c.answer.new.self now now' = subst (λ n. StopsAt F S line c.lines.live c.answer.new.self n now') c.ready.ensures c.in_err-goes_on.ensures.stops in
-    on_any_err c.from_residual-in_err-goes_on.result (stopped_at_line F S said whole left line c.lines.number c.lines.live c.answer.new.self old now now' c.lines.invariant.answered first stops)
+    let stops : StopsAt F S line c.lines.live c.answer.new.self now now' =
+    subst (λ n. StopsAt F S line c.lines.live c.answer.new.self n now') c.ready.ensures
+    c.in_err-goes_on.ensures.stops in
+    on_any_err c.from_residual-in_err-goes_on.result
+    (stopped_at_line F S said whole left line c.lines.number c.lines.live c.answer.new.self old
+    now now' c.lines.invariant.answered first stops)
 
 pub returns-in_err-goes_on-clause-write : goal.returns-in_err-goes_on-clause-write
 returns-in_err-goes_on-clause-write g c =
@@ -181,12 +248,18 @@ returns-in_err-goes_on-clause-write g c =
     let now = g.L.Listener.heard c.lines.listener in
     let line = c.as_slice.result.now in
     let same : line ≡ c.read_line.new.line.items = cc in
-    let first : IfSome left (λ input. line ≡ first_line input) = subst (λ (l : List ℕ). IfSome left (λ input. l ≡ first_line input)) (sym same) c.in_ok-ended.ensures.line in
+    let first : IfSome left (λ input. line ≡ first_line input) = subst (λ (l : List ℕ). IfSome left
+    (λ input. l ≡ first_line input)) (sym same) c.in_ok-ended.ensures.line in
     let now' = g.L.Listener.heard c.answer.new.listener in
-    let stops : StopsAt F S line c.lines.live c.answer.new.self now now' = subst (λ n. StopsAt F S line c.lines.live c.answer.new.self n now') c.ready.ensures c.in_err-goes_on.ensures.stops in
-    λ e. let p = err_from_is_err_and c.from_residual-in_err-goes_on.result c.from_residual-in_err-goes_on.ensures.1 in
+    let stops : StopsAt F S line c.lines.live c.answer.new.self now now' =
+    subst (λ n. StopsAt F S line c.lines.live c.answer.new.self n now') c.ready.ensures
+    c.in_err-goes_on.ensures.stops in
+    λ e. let p = err_from_is_err_and c.from_residual-in_err-goes_on.result
+    c.from_residual-in_err-goes_on.ensures.1 in
     let is_write : p.0 ≡ Write = cc in
-    refused_at_line F S said whole left line c.lines.number c.lines.live c.answer.new.self old now now' c.lines.invariant.answered first stops (c.in_err-goes_on.ensures.write (ap Err (sym p.2 ∙ is_write)))
+    refused_at_line F S said whole left line c.lines.number
+    c.lines.live c.answer.new.self old now now' c.lines.invariant.answered first stops
+    (c.in_err-goes_on.ensures.write (ap Err (sym p.2 ∙ is_write)))
 
 pub returns-then-not-goes_on-clause-answered : goal.returns-then-not-goes_on-clause-answered
 returns-then-not-goes_on-clause-answered g c =
@@ -199,14 +272,22 @@ returns-then-not-goes_on-clause-answered g c =
     let now = g.L.Listener.heard c.lines.listener in
     let line = c.as_slice.result.now in
     let same : line ≡ c.read_line.new.line.items = cc in
-    let first : IfSome left (λ input. line ≡ first_line input) = subst (λ (l : List ℕ). IfSome left (λ input. l ≡ first_line input)) (sym same) c.in_ok-ended.ensures.line in
+    let first : IfSome left (λ input. line ≡ first_line input) = subst (λ (l : List ℕ). IfSome left
+    (λ input. l ≡ first_line input)) (sym same) c.in_ok-ended.ensures.line in
     let now' = g.L.Listener.heard c.answer.new.listener in
     let end = g.L.Listener.heard c.end.new.listener in
-    let by = at_ready F S line c.lines.live c.answer.new.self now (g.L.Listener.heard c.ready.new.self) now' c.ready.ensures c.in_ok-goes_on.ensures.answers in
-    let is_off : c.in_ok-goes_on.goes_on ≡ false = first_of (search (rules, tests), grind (arith, nat_tests), cc) in
-    let off : goes_on (line_meant c.lines.live.board c.lines.live.agents line) ≡ false = sym c.in_ok-goes_on.ensures.goes_on ∙ is_off in
-    let refused = on_err c.end.result c.end.ensures.stops (λ may. refused_at_quit F S said whole left line c.lines.number c.lines.live c.answer.new.self old now now' end c.lines.invariant.answered first off by
-    (λ gave. at_quit F S said whole left line c.lines.live c.answer.new.self c.in_ok-ended.ended old now now' end c.lines.invariant.way first c.in_ok-ended.ensures.ended off by c.end.ensures.gathered gave) may) in
+    let by = at_ready F S line c.lines.live c.answer.new.self now (g.L.Listener.heard
+    c.ready.new.self) now' c.ready.ensures c.in_ok-goes_on.ensures.answers in
+    let is_off : c.in_ok-goes_on.goes_on ≡ false =
+    first_of (search (rules, tests), grind (arith, nat_tests), cc) in
+    let off : goes_on (line_meant c.lines.live.board c.lines.live.agents line) ≡ false =
+    sym c.in_ok-goes_on.ensures.goes_on ∙ is_off in
+    let refused = on_err c.end.result c.end.ensures.stops
+    (λ may. refused_at_quit F S said whole left line c.lines.number c.lines.live
+    c.answer.new.self old now now' end c.lines.invariant.answered first off by
+    (λ gave. at_quit F S said whole left line c.lines.live c.answer.new.self c.in_ok-ended.ended
+    old now now' end c.lines.invariant.way first c.in_ok-ended.ensures.ended off by
+    c.end.ensures.gathered gave) may) in
     on_err c.end.result refused (stopped_by_end F S said whole old end)
 
 pub returns-then-not-goes_on-clause-write : goal.returns-then-not-goes_on-clause-write
@@ -220,15 +301,24 @@ returns-then-not-goes_on-clause-write g c =
     let now = g.L.Listener.heard c.lines.listener in
     let line = c.as_slice.result.now in
     let same : line ≡ c.read_line.new.line.items = cc in
-    let first : IfSome left (λ input. line ≡ first_line input) = subst (λ (l : List ℕ). IfSome left (λ input. l ≡ first_line input)) (sym same) c.in_ok-ended.ensures.line in
+    let first : IfSome left (λ input. line ≡ first_line input) = subst (λ (l : List ℕ). IfSome left
+    (λ input. l ≡ first_line input)) (sym same) c.in_ok-ended.ensures.line in
     let now' = g.L.Listener.heard c.answer.new.listener in
     let end = g.L.Listener.heard c.end.new.listener in
-    let by = at_ready F S line c.lines.live c.answer.new.self now (g.L.Listener.heard c.ready.new.self) now' c.ready.ensures c.in_ok-goes_on.ensures.answers in
-    let is_off : c.in_ok-goes_on.goes_on ≡ false = first_of (search (rules, tests), grind (arith, nat_tests), cc) in
-    let off : goes_on (line_meant c.lines.live.board c.lines.live.agents line) ≡ false = sym c.in_ok-goes_on.ensures.goes_on ∙ is_off in
-    let refused = on_err c.end.result c.end.ensures.stops (λ may. refused_at_quit F S said whole left line c.lines.number c.lines.live c.answer.new.self old now now' end c.lines.invariant.answered first off by
-    (λ gave. at_quit F S said whole left line c.lines.live c.answer.new.self c.in_ok-ended.ended old now now' end c.lines.invariant.way first c.in_ok-ended.ensures.ended off by c.end.ensures.gathered gave) may) in
-    λ e. refuses_by_end F S said whole old end (subst (λ r. OnErr r (IfSome whole (λ input. RefusesEnd F S said input old end))) e refused)
+    let by = at_ready F S line c.lines.live c.answer.new.self now (g.L.Listener.heard
+    c.ready.new.self) now' c.ready.ensures c.in_ok-goes_on.ensures.answers in
+    let is_off : c.in_ok-goes_on.goes_on ≡ false =
+    first_of (search (rules, tests), grind (arith, nat_tests), cc) in
+    let off : goes_on (line_meant c.lines.live.board c.lines.live.agents line) ≡ false =
+    sym c.in_ok-goes_on.ensures.goes_on ∙ is_off in
+    let refused = on_err c.end.result c.end.ensures.stops
+    (λ may. refused_at_quit F S said whole left line c.lines.number c.lines.live
+    c.answer.new.self old now now' end c.lines.invariant.answered first off by
+    (λ gave. at_quit F S said whole left line c.lines.live c.answer.new.self c.in_ok-ended.ended
+    old now now' end c.lines.invariant.way first c.in_ok-ended.ensures.ended off by
+    c.end.ensures.gathered gave) may) in
+    λ e. refuses_by_end F S said whole old end
+    (subst (λ r. OnErr r (IfSome whole (λ input. RefusesEnd F S said input old end))) e refused)
 
 pub returns-then-not-ended-clause-answered : goal.returns-then-not-ended-clause-answered
 returns-then-not-ended-clause-answered g c =
@@ -241,15 +331,25 @@ returns-then-not-ended-clause-answered g c =
     let now = g.L.Listener.heard c.lines.listener in
     let line = c.as_slice.result.now in
     let same : line ≡ c.read_line.new.line.items = cc in
-    let first : IfSome left (λ input. line ≡ first_line input) = subst (λ (l : List ℕ). IfSome left (λ input. l ≡ first_line input)) (sym same) c.in_ok-ended.ensures.line in
+    let first : IfSome left (λ input. line ≡ first_line input) = subst (λ (l : List ℕ). IfSome left
+    (λ input. l ≡ first_line input)) (sym same) c.in_ok-ended.ensures.line in
     let now' = g.L.Listener.heard c.answer.new.listener in
     let end = g.L.Listener.heard c.end-then-not-ended.new.listener in
-    let by = at_ready F S line c.lines.live c.answer.new.self now (g.L.Listener.heard c.ready.new.self) now' c.ready.ensures c.in_ok-goes_on.ensures.answers in
-    let is_last : c.in_ok-ended.ended ≡ false = first_of (search (rules, tests), grind (arith, nat_tests), cc) in
-    let is_on : c.in_ok-goes_on.goes_on ≡ true = first_of (search (rules, tests), grind (arith, nat_tests), cc) in
-    let on : goes_on (line_meant c.lines.live.board c.lines.live.agents line) ≡ true = sym c.in_ok-goes_on.ensures.goes_on ∙ is_on in
-    let refused = on_err c.end-then-not-ended.result c.end-then-not-ended.ensures.stops (λ may. refused_at_last F S said whole left line c.lines.number c.lines.live c.answer.new.self c.in_ok-ended.ended old now now' end c.lines.invariant.answered first c.in_ok-ended.ensures.ended is_last by
-    (λ gave. at_last F S said whole left line c.lines.live c.answer.new.self c.in_ok-ended.ended old now now' end c.lines.invariant.way first c.in_ok-ended.ensures.ended is_last on by c.end-then-not-ended.ensures.gathered gave) may) in
+    let by = at_ready F S line c.lines.live c.answer.new.self now (g.L.Listener.heard
+    c.ready.new.self) now' c.ready.ensures c.in_ok-goes_on.ensures.answers in
+    let is_last : c.in_ok-ended.ended ≡ false =
+    first_of (search (rules, tests), grind (arith, nat_tests), cc) in
+    let is_on : c.in_ok-goes_on.goes_on ≡ true =
+    first_of (search (rules, tests), grind (arith, nat_tests), cc) in
+    let on : goes_on (line_meant c.lines.live.board c.lines.live.agents line) ≡ true =
+    sym c.in_ok-goes_on.ensures.goes_on ∙ is_on in
+    let refused = on_err c.end-then-not-ended.result c.end-then-not-ended.ensures.stops
+    (λ may. refused_at_last F S said whole left line c.lines.number c.lines.live
+    c.answer.new.self c.in_ok-ended.ended old now now' end c.lines.invariant.answered first
+    c.in_ok-ended.ensures.ended is_last by
+    (λ gave. at_last F S said whole left line c.lines.live c.answer.new.self c.in_ok-ended.ended
+    old now now' end c.lines.invariant.way first c.in_ok-ended.ensures.ended is_last on by
+    c.end-then-not-ended.ensures.gathered gave) may) in
     on_err c.end-then-not-ended.result refused (stopped_by_end F S said whole old end)
 
 pub returns-then-not-ended-clause-write : goal.returns-then-not-ended-clause-write
@@ -263,16 +363,27 @@ returns-then-not-ended-clause-write g c =
     let now = g.L.Listener.heard c.lines.listener in
     let line = c.as_slice.result.now in
     let same : line ≡ c.read_line.new.line.items = cc in
-    let first : IfSome left (λ input. line ≡ first_line input) = subst (λ (l : List ℕ). IfSome left (λ input. l ≡ first_line input)) (sym same) c.in_ok-ended.ensures.line in
+    let first : IfSome left (λ input. line ≡ first_line input) = subst (λ (l : List ℕ). IfSome left
+    (λ input. l ≡ first_line input)) (sym same) c.in_ok-ended.ensures.line in
     let now' = g.L.Listener.heard c.answer.new.listener in
     let end = g.L.Listener.heard c.end-then-not-ended.new.listener in
-    let by = at_ready F S line c.lines.live c.answer.new.self now (g.L.Listener.heard c.ready.new.self) now' c.ready.ensures c.in_ok-goes_on.ensures.answers in
-    let is_last : c.in_ok-ended.ended ≡ false = first_of (search (rules, tests), grind (arith, nat_tests), cc) in
-    let is_on : c.in_ok-goes_on.goes_on ≡ true = first_of (search (rules, tests), grind (arith, nat_tests), cc) in
-    let on : goes_on (line_meant c.lines.live.board c.lines.live.agents line) ≡ true = sym c.in_ok-goes_on.ensures.goes_on ∙ is_on in
-    let refused = on_err c.end-then-not-ended.result c.end-then-not-ended.ensures.stops (λ may. refused_at_last F S said whole left line c.lines.number c.lines.live c.answer.new.self c.in_ok-ended.ended old now now' end c.lines.invariant.answered first c.in_ok-ended.ensures.ended is_last by
-    (λ gave. at_last F S said whole left line c.lines.live c.answer.new.self c.in_ok-ended.ended old now now' end c.lines.invariant.way first c.in_ok-ended.ensures.ended is_last on by c.end-then-not-ended.ensures.gathered gave) may) in
-    λ e. refuses_by_end F S said whole old end (subst (λ r. OnErr r (IfSome whole (λ input. RefusesEnd F S said input old end))) e refused)
+    let by = at_ready F S line c.lines.live c.answer.new.self now (g.L.Listener.heard
+    c.ready.new.self) now' c.ready.ensures c.in_ok-goes_on.ensures.answers in
+    let is_last : c.in_ok-ended.ended ≡ false =
+    first_of (search (rules, tests), grind (arith, nat_tests), cc) in
+    let is_on : c.in_ok-goes_on.goes_on ≡ true =
+    first_of (search (rules, tests), grind (arith, nat_tests), cc) in
+    let on : goes_on (line_meant c.lines.live.board c.lines.live.agents line) ≡ true =
+    sym c.in_ok-goes_on.ensures.goes_on ∙ is_on in
+    let refused = on_err c.end-then-not-ended.result c.end-then-not-ended.ensures.stops
+    (λ may. refused_at_last F S said whole left line c.lines.number c.lines.live
+    c.answer.new.self c.in_ok-ended.ended old now now' end c.lines.invariant.answered first
+    c.in_ok-ended.ensures.ended is_last by
+    (λ gave. at_last F S said whole left line c.lines.live c.answer.new.self c.in_ok-ended.ended
+    old now now' end c.lines.invariant.way first c.in_ok-ended.ensures.ended is_last on by
+    c.end-then-not-ended.ensures.gathered gave) may) in
+    λ e. refuses_by_end F S said whole old end
+    (subst (λ r. OnErr r (IfSome whole (λ input. RefusesEnd F S said input old end))) e refused)
 
 pub returns-clause-answered : goal.returns-clause-answered
 returns-clause-answered g c =
@@ -283,7 +394,8 @@ returns-clause-answered g c =
     let left = c.lines.input.left in
     let old = g.L.Listener.heard c.args.listener.now in
     let now = g.L.Listener.heard c.lines.listener in
-    first_answered F S said whole left c.lines.number c.lines.live old now c.lines.invariant.answered
+    first_answered F S said whole left c.lines.number c.lines.live old now
+    c.lines.invariant.answered
 
 pub returns-clause-size : goal.returns-clause-size
 returns-clause-size g c =
@@ -294,4 +406,5 @@ returns-clause-size g c =
     let left = c.lines.input.left in
     let old = g.L.Listener.heard c.args.listener.now in
     let now = g.L.Listener.heard c.lines.listener in
-    λ e. before_uncounted F S said whole left c.lines.number c.lines.live old now c.lines.invariant.answered (omega arith)
+    λ e. before_uncounted F S said whole left c.lines.number c.lines.live old now
+    c.lines.invariant.answered (omega arith)

@@ -7,7 +7,11 @@ use Rattle.scmi_live.proofs.run.run_live.Given as goal
 
 abbrev pub invariant-lines : goal.invariant-lines
 invariant-lines g l = record {
-  way : IsUnderWay g.C.Channel.FULL (ShowsClose g.C.Channel.caller_view g.C.Channel.close_shows) (described l.fn.board) l.fn.input.left l.input.left l.live (g.L.Listener.heard l.fn.listener) (g.L.Listener.heard l.listener);
-  answered : AreAnswered g.C.Channel.FULL (ShowsClose g.C.Channel.caller_view g.C.Channel.close_shows) (described l.fn.board) l.fn.input.left l.input.left l.number l.live (g.L.Listener.heard l.fn.listener) (g.L.Listener.heard l.listener);
+  way : IsUnderWay g.C.Channel.FULL (ShowsClose g.C.Channel.caller_view g.C.Channel.close_shows)
+      (described l.fn.board) l.fn.input.left l.input.left l.live (g.L.Listener.heard l.fn.listener)
+      (g.L.Listener.heard l.listener);
+  answered : AreAnswered g.C.Channel.FULL (ShowsClose g.C.Channel.caller_view
+      g.C.Channel.close_shows) (described l.fn.board) l.fn.input.left l.input.left l.number l.live
+      (g.L.Listener.heard l.fn.listener) (g.L.Listener.heard l.listener);
   stops : l.fn.input.since_failure ≡ 0 → l.input.since_failure ≡ 0;
 }

@@ -7,5 +7,6 @@ use Rattle.scmi_modes.proofs.standing.states_of.Given as goal
 abbrev pub invariant-domains : goal.invariant-domains
 invariant-domains l = record {
   room : length l.states ≡ DOMAINS;
-  so_far : (d : ℕ) → d < l.domain → get_or l.states d 0 ≡ value_after l.core.board (State d) l.core.history;
+  so_far : (d : ℕ) → d < l.domain
+      → get_or l.states d 0 ≡ value_after l.core.board (State d) l.core.history;
 }

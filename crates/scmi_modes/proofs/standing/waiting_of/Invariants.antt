@@ -6,5 +6,6 @@ use Rattle.scmi_modes.proofs.standing.waiting_of.Given as goal
 abbrev pub invariant-agents : goal.invariant-agents
 invariant-agents l = record {
   room : length l.waiting ≡ AGENTS;
-  so_far : (i : ℕ) → i < l.index → get_or l.waiting i 0 ≡ length (outbox l.core.board (i + 1) l.core.history);
+  so_far : (i : ℕ) → i < l.index
+      → get_or l.waiting i 0 ≡ length (outbox l.core.board (i + 1) l.core.history);
 }

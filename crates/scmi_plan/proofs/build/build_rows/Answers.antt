@@ -16,6 +16,8 @@ build_clocks-requires c = rw c.deref-6.ensures.value (named_clocks c.args.raw.no
 
 pub invariant_of-result : goal.invariant_of-result
 invariant_of-result c =
-    let counts : has_valid_counts (asked_board c.args.raw.now) ≡ true = counts_of_valid (asked_board c.args.raw.now) c.requires in
-    let names : HasNames (asked_board c.args.raw.now) = names_of_valid (asked_board c.args.raw.now) c.requires in
+    let counts : has_valid_counts (asked_board c.args.raw.now) ≡ true =
+    counts_of_valid (asked_board c.args.raw.now) c.requires in
+    let names : HasNames (asked_board c.args.raw.now) =
+    names_of_valid (asked_board c.args.raw.now) c.requires in
     search rules

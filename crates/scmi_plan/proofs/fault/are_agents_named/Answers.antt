@@ -7,5 +7,6 @@ use Rattle.scmi_plan.proofs.fault.are_agents_named.Goals as goal
 
 pub returns : goal.returns
 returns c =
-    all_from_yields_List (λ agent. is_name (string_bytes agent)) _ _ _ c.all.ensures.ran (YieldsList-from_slice c.args.agents.now cc) (λ x b q k. search (rules, tests))
+    all_from_yields_List (λ agent. is_name (string_bytes agent)) _ _ _ c.all.ensures.ran
+    (YieldsList-from_slice c.args.agents.now cc) (λ x b q k. search (rules, tests))
     ∙ sym (list_all-map is_name string_bytes c.args.agents.now)

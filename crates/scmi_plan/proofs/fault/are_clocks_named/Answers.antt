@@ -8,5 +8,6 @@ use Rattle.scmi_plan.proofs.fault.are_clocks_named.Goals as goal
 
 pub returns : goal.returns
 returns c =
-    all_from_yields_List (λ clock. is_name (string_bytes clock.name)) _ _ _ c.all.ensures.ran (YieldsList-from_slice c.args.clocks.now cc) (λ x b q k. search (rules, tests))
+    all_from_yields_List (λ clock. is_name (string_bytes clock.name)) _ _ _ c.all.ensures.ran
+    (YieldsList-from_slice c.args.clocks.now cc) (λ x b q k. search (rules, tests))
     ∙ sym (list_all-map (λ clock. is_name clock.name) asked_clock c.args.clocks.now)

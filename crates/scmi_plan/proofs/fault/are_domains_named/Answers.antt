@@ -8,5 +8,6 @@ use Rattle.scmi_plan.proofs.fault.are_domains_named.Goals as goal
 
 pub returns : goal.returns
 returns c =
-    all_from_yields_List (λ domain. is_name (string_bytes domain.name)) _ _ _ c.all.ensures.ran (YieldsList-from_slice c.args.domains.now cc) (λ x b q k. search (rules, tests))
+    all_from_yields_List (λ domain. is_name (string_bytes domain.name)) _ _ _ c.all.ensures.ran
+    (YieldsList-from_slice c.args.domains.now cc) (λ x b q k. search (rules, tests))
     ∙ sym (list_all-map (λ domain. is_name domain.name) asked_domain c.args.domains.now)

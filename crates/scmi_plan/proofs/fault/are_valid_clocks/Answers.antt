@@ -6,5 +6,6 @@ use Rattle.scmi_plan.proofs.fault.are_valid_clocks.Goals as goal
 
 pub returns : goal.returns
 returns c =
-    all_from_yields_List (λ clock. is_valid clock.rates && (c.args.loose || supports clock.rates clock.rate)) _ _ _ c.all.ensures.ran
+    all_from_yields_List (λ clock. is_valid clock.rates
+    && (c.args.loose || supports clock.rates clock.rate)) _ _ _ c.all.ensures.ran
     (YieldsList-from_slice c.args.clocks.now cc) (λ x b q k. search (rules, tests))

@@ -5,5 +5,6 @@ use Rattle.scmi_plan.proofs.fault.are_valid_devices.Goals as goal
 
 pub returns : goal.returns
 returns c =
-    all_from_yields_List (λ device. nat_lt device.domains (2 ^ c.args.domains) && nat_lt device.clocks (2 ^ c.args.clocks)) _ _ _ c.all.ensures.ran
+    all_from_yields_List (λ device. nat_lt device.domains (2 ^ c.args.domains)
+    && nat_lt device.clocks (2 ^ c.args.clocks)) _ _ _ c.all.ensures.ran
     (YieldsList-from_slice c.args.devices.now cc) (λ x b q k. search (rules, tests))

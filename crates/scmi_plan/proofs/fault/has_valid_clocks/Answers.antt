@@ -9,6 +9,8 @@ use Rattle.scmi_plan.proofs.fault.has_valid_clocks.Goals as goal
 
 pub returns : goal.returns
 returns c =
-    all_from_yields_List (λ clock. is_valid (rates_of clock.rates) && supports (rates_of clock.rates) clock.rate) _ _ _ c.all.ensures.ran
+    all_from_yields_List (λ clock. is_valid (rates_of clock.rates)
+    && supports (rates_of clock.rates) clock.rate) _ _ _ c.all.ensures.ran
     (YieldsList-from_slice c.args.raw.now.clocks.items cc) (λ x b q k. search (rules, tests))
-    ∙ sym (list_all-map (λ clock. is_valid clock.rates && supports clock.rates clock.rate) asked_clock c.args.raw.now.clocks.items)
+    ∙ sym (list_all-map (λ clock. is_valid clock.rates && supports clock.rates clock.rate)
+    asked_clock c.args.raw.now.clocks.items)

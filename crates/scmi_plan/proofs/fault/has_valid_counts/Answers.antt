@@ -10,5 +10,6 @@ returns c =
     let domains : length raw.domains.items ≡ c.len-2.result = search rules in
     let clocks : length raw.clocks.items ≡ c.len-3.result = search rules in
     let devices : length raw.devices.items ≡ c.len-4.result = search rules in
-    c.are_valid_counts.ensures (asked_board raw) (length-map raw.agents.items string_bytes ∙ agents) (length-map raw.domains.items asked_domain ∙ domains)
+    c.are_valid_counts.ensures (asked_board raw) (length-map raw.agents.items string_bytes ∙ agents)
+    (length-map raw.domains.items asked_domain ∙ domains)
     (length-map raw.clocks.items asked_clock ∙ clocks) devices

@@ -6,4 +6,5 @@ use Rattle.scmi_plan.proofs.fault.is_name.Goals as goal
 pub returns : goal.returns
 returns c =
     c.is_some.ensures
-    ∙ same_from_decides _ _ (c.new.ensures.variant.0, c.new.ensures.variant.1) (Decides-is_name c.args.text.now)
+    ∙ same_from_decides _ _ (c.new.ensures.variant.0, c.new.ensures.variant.1)
+    (Decides-is_name c.args.text.now)

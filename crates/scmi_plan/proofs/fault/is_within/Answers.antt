@@ -15,4 +15,5 @@ returns-then-count-ge32 c =
 pub returns-else-count-ge32 : goal.returns-else-count-ge32
 returns-else-count-ge32 c =
     let p = 2 ^ c.args.count in
-    same_from_decides (c.args.set / p == 0) (nat_lt c.args.set p) (Decides-below c.args.set p (pow_pos c.args.count)) (Decides-ltb c.args.set p)
+    same_from_decides (c.args.set / p == 0) (nat_lt c.args.set p)
+    (Decides-below c.args.set p (pow_pos c.args.count)) (Decides-ltb c.args.set p)

@@ -6,5 +6,6 @@ use Rattle.scmi_plan.proofs.holders.holders_of.Given as goal
 
 abbrev pub invariant-loop-device : goal.invariant-loop-device
 invariant-loop-device l = record {
-  held : (d : ℕ) → d < DEVICES → (bit_at l.mask d == 1) ≡ (nat_lt d l.device && holds (device_in l.devices d) l.resource);
+  held : (d : ℕ) → d < DEVICES
+      → (bit_at l.mask d == 1) ≡ (nat_lt d l.device && holds (device_in l.devices d) l.resource);
 }

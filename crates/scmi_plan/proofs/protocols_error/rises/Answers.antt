@@ -9,5 +9,6 @@ pub returns : goal.returns
 returns c =
     let ids = c.args.ids.now in
     same_from_decides c.is_sorted_by.result (rises ids)
-    (Decides-below_next c.is_sorted_by.result ids (c.is_sorted_by.ensures.cases nat_lt (always_returns_same _ _ _ (λ a r f' k. (search rules, refl)))))
+    (Decides-below_next c.is_sorted_by.result ids (c.is_sorted_by.ensures.cases nat_lt
+    (always_returns_same _ _ _ (λ a r f' k. (search rules, refl)))))
     (Decides-rises ids)

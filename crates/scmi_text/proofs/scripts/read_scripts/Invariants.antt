@@ -7,7 +7,8 @@ use Rattle.scmi_text.proofs.scripts.read_scripts.Given as goal
 abbrev pub invariant-loop-line : goal.invariant-loop-line
 invariant-loop-line l = record {
   agents : l.list.agents ≡ l.agents;
-  so_far : after_lines (with_line l.agents) (scripts_of l.list.scripts.items) (lines_left l.lines) ≡ scripts_left l.agents l.fn.lines;
+  so_far : after_lines (with_line l.agents) (scripts_of l.list.scripts.items) (lines_left l.lines)
+      ≡ scripts_left l.agents l.fn.lines;
 }
 
 abbrev pub decreases-loop-line : goal.decreases-loop-line

@@ -8,10 +8,13 @@ use Rattle.scmi_threads.proofs.starting.start_runs.Given as goal
 
 abbrev pub invariant-links : goal.invariant-links
 invariant-links g l = record {
-  a2p : map (λ s. s.end.a2p_identity) l.script_runs.items ≡ identities_of_a2p g.C.Channel.identity (take l.i l.links);
-  p2a : map (λ s. s.end.p2a_identity) l.script_runs.items ≡ identities_of_p2a g.C.Channel.identity (take l.i l.links);
+  a2p : map (λ s. s.end.a2p_identity) l.script_runs.items
+      ≡ identities_of_a2p g.C.Channel.identity (take l.i l.links);
+  p2a : map (λ s. s.end.p2a_identity) l.script_runs.items
+      ≡ identities_of_p2a g.C.Channel.identity (take l.i l.links);
   started : AllFrom (IsStarted l.scripts) 1 l.script_runs.items;
   count : length l.script_runs.items ≡ l.i;
   ids : AllFrom IsNewAgent (l.i + 1) l.ends.items;
-  left : AllZip (λ k e. IsNewOnLink (g.C.Channel.identity k.a2p) (g.C.Channel.identity k.p2a) e) (drop l.i l.links) l.ends.items;
+  left : AllZip (λ k e. IsNewOnLink (g.C.Channel.identity k.a2p) (g.C.Channel.identity k.p2a) e)
+      (drop l.i l.links) l.ends.items;
 }

@@ -10,20 +10,33 @@ use Rattle.scmi_words.proofs.Loads.{callee_is, one_over_long, payload_more, call
 use Rattle.scmi_words.proofs.frames.read_message.Goals as goal
 
 pub loop-i-preserved : goal.loop-i-preserved
-loop-i-preserved g c = let inv = c.loop-i.invariant in let h = callee_of c.args.seat.now in let m : Message = g.posted in
+loop-i-preserved g c =
+    let inv = c.loop-i.invariant in
+    let h = callee_of c.args.seat.now in
+    let m : Message = g.posted in
     let area : frame_area h ≡ frame_words (Good m) = search rules in
     let lt : c.loop-i.i < length m.payload.items = omega arith in
-    let word : c.load_frame_word.result ≡ get_or (frame_words (Good m)) (2 + c.loop-i.i) 0 = callee_word_at c.loop-i.seat (callee_after h c.loop-i.i) (frame_words (Good m)) _ (4 + c.loop-i.i) (2 + c.loop-i.i)
-    (callee_is c.args.seat.now c.loop-i.seat (callee_after h c.loop-i.i) inv.0) area c.load_frame_word.ensures.value (omega arith) (omega arith) in (
+    let word : c.load_frame_word.result ≡ get_or (frame_words (Good m)) (2 + c.loop-i.i) 0 =
+    callee_word_at c.loop-i.seat (callee_after h c.loop-i.i) (frame_words (Good m)) _
+    (4 + c.loop-i.i) (2 + c.loop-i.i)
+    (callee_is c.args.seat.now c.loop-i.seat (callee_after h c.loop-i.i) inv.0) area
+    c.load_frame_word.ensures.value (omega arith) (omega arith) in (
       search rules,
-      one_over_long c.loop-i.message.payload.items c.deref_mut.result.now c.loop-i.i c.load_frame_word.result c.args.count c.deref_mut.ensures.value inv.1,
-      payload_more m c.loop-i.message.payload.items c.deref_mut.result.now c.loop-i.i c.load_frame_word.result c.deref_mut.ensures.value (omega arith) lt inv.2 word,
+      one_over_long c.loop-i.message.payload.items c.deref_mut.result.now c.loop-i.i
+          c.load_frame_word.result c.args.count c.deref_mut.ensures.value inv.1,
+      payload_more m c.loop-i.message.payload.items c.deref_mut.result.now c.loop-i.i
+          c.load_frame_word.result c.deref_mut.ensures.value (omega arith) lt inv.2 word,
       inv.3,
     )
 
 pub returns-clause-value : goal.returns-clause-value
-returns-clause-value g c = let inv = c.loop-i.invariant in let m : Message = g.posted in let valid : IsValidMessage m = search rules in
-    let all : c.loop-i.message.payload.items ≡ m.payload.items = sym (take_all c.loop-i.i c.loop-i.message.payload.items (omega arith)) ∙ inv.2 ∙ take_all c.loop-i.i m.payload.items (omega arith) in
+returns-clause-value g c =
+    let inv = c.loop-i.invariant in
+    let m : Message = g.posted in
+    let valid : IsValidMessage m = search rules in
+    let all : c.loop-i.message.payload.items ≡ m.payload.items =
+    sym (take_all c.loop-i.i c.loop-i.message.payload.items (omega arith)) ∙ inv.2
+    ∙ take_all c.loop-i.i m.payload.items (omega arith) in
     let head : c.args.header ≡ header_word m.header = search rules in
     let fields = inv.3 ∙ (ap header_of head ∙ valid.header) in
     λ j. record { header = fields j; payload = record { items = all j } }

@@ -6,4 +6,5 @@ use Rattle.scmi_words.specs.declared.layout.TheConstants.{TABLE_WORDS}
 use Rattle.scmi_words.proofs.word_image.words_of.Given as goal
 
 abbrev pub invariant-loop-i : goal.invariant-loop-i
-invariant-loop-i l = (length l.words ≡ TABLE_WORDS) × ((k : ℕ) → k < l.i → get_elem? (slots_items l.closed.words) k ≡ some (slice_index l.words k))
+invariant-loop-i l = (length l.words ≡ TABLE_WORDS)
+    × ((k : ℕ) → k < l.i → get_elem? (slots_items l.closed.words) k ≡ some (slice_index l.words k))

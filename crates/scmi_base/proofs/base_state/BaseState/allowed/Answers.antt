@@ -12,6 +12,8 @@ returns c = λ d small.
     (bit_of-and c.devices.result c.match-resource.protocol d
     ∙ ap (λ b. b && (bit_at c.match-resource.protocol d == 1)) (c.devices.ensures d small)
     ∙ elim c.match-resource.branch [
-      | in-Domain w ↦ rw (w.protocol-is, w.in-Domain.is) (ap (λ b. device && b) (w.devices-protocol.ensures d small))
-      | in-Clock w ↦ rw (w.protocol-is, w.in-Clock.is) (ap (λ b. device && b) (w.devices-protocol-in-Clock.ensures d small))
+      | in-Domain w ↦ rw (w.protocol-is, w.in-Domain.is)
+          (ap (λ b. device && b) (w.devices-protocol.ensures d small))
+      | in-Clock w ↦ rw (w.protocol-is, w.in-Clock.is)
+          (ap (λ b. device && b) (w.devices-protocol-in-Clock.ensures d small))
     ])

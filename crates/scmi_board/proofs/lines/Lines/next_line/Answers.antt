@@ -6,19 +6,28 @@ use Rattle.scmi_board.proofs.lines.Lines.next_line.Goals as goal
 
 pub returns-then-is_significant-clause-lines : goal.returns-then-is_significant-clause-lines
 returns-then-is_significant-clause-lines c =
-    let counts = counted c.loop-text.self.number c.cut.new.self.number (lines_of c.loop-text.self.rest) (lines_of c.cut.new.self.rest) c.in-Some.text.now c.in-Some.ensures.lines c.in-Some.ensures.number (sym c.if-is_significant.ensures) in
+    let counts = counted c.loop-text.self.number c.cut.new.self.number
+    (lines_of c.loop-text.self.rest) (lines_of c.cut.new.self.rest) c.in-Some.text.now
+    c.in-Some.ensures.lines c.in-Some.ensures.number (sym c.if-is_significant.ensures) in
     first_of (cc, grind (arith, common_steps))
 
 pub returns-then-is_significant-clause-last : goal.returns-then-is_significant-clause-last
 returns-then-is_significant-clause-last c =
-    last_later c.loop-text.self.number c.cut.new.self.number (lines_of c.loop-text.self.rest) (lines_of c.cut.new.self.rest) c.in-Some.text.now c.in-Some.ensures.lines c.in-Some.ensures.number ∙ c.loop-text.invariant.last
+    last_later c.loop-text.self.number c.cut.new.self.number (lines_of c.loop-text.self.rest)
+    (lines_of c.cut.new.self.rest) c.in-Some.text.now c.in-Some.ensures.lines
+    c.in-Some.ensures.number ∙ c.loop-text.invariant.last
 
 pub loop-text-preserved : goal.loop-text-preserved
 loop-text-preserved c = record {
   smaller = omega (arith, c.in-Some.ensures.smaller);
-  lines = skipped c.loop-text.self.number c.cut.new.self.number (lines_of c.loop-text.self.rest) (lines_of c.cut.new.self.rest) c.in-Some.text.now c.in-Some.ensures.lines c.in-Some.ensures.number (sym c.if-is_significant.ensures) ∙ c.loop-text.invariant.lines;
-  last = last_later c.loop-text.self.number c.cut.new.self.number (lines_of c.loop-text.self.rest) (lines_of c.cut.new.self.rest) c.in-Some.text.now c.in-Some.ensures.lines c.in-Some.ensures.number ∙ c.loop-text.invariant.last;
+  lines = skipped c.loop-text.self.number c.cut.new.self.number (lines_of c.loop-text.self.rest)
+      (lines_of c.cut.new.self.rest) c.in-Some.text.now c.in-Some.ensures.lines
+      c.in-Some.ensures.number (sym c.if-is_significant.ensures) ∙ c.loop-text.invariant.lines;
+  last = last_later c.loop-text.self.number c.cut.new.self.number (lines_of c.loop-text.self.rest)
+      (lines_of c.cut.new.self.rest) c.in-Some.text.now c.in-Some.ensures.lines
+      c.in-Some.ensures.number ∙ c.loop-text.invariant.last;
 }
 
 pub returns-clause-lines : goal.returns-clause-lines
-returns-clause-lines c = sym c.loop-text.invariant.lines ∙ none_behind c.loop-text.self.number c.loop-text.self.rest c.in_default.ensures.lines.0
+returns-clause-lines c = sym c.loop-text.invariant.lines
+    ∙ none_behind c.loop-text.self.number c.loop-text.self.rest c.in_default.ensures.lines.0

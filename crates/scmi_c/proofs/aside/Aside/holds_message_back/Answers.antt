@@ -12,8 +12,12 @@ returns-then-holds_back c =
     let slot = get_or slots place c.index-self-place.result in
     let own : place + 1 ≡ suc place = omega arith in
     let on : holds_in (suc place) slot c.args.agent c.args.message.now ≡ true =
-    ap (λ (n : ℕ). holds_in n slot c.args.agent c.args.message.now) (sym own) ∙ sym c.holds_back.ensures ∙ c.if-holds_back.true in
-    (λ true. held-by slots place slot c.args.agent c.args.message.now (slice_get-get_or slots place c.index-self-place.result within) on, λ held. refl)
+    ap (λ (n : ℕ). holds_in n slot c.args.agent c.args.message.now) (sym own)
+    ∙ sym c.holds_back.ensures ∙ c.if-holds_back.true in (
+      λ true. held-by slots place slot c.args.agent c.args.message.now
+          (slice_get-get_or slots place c.index-self-place.result within) on,
+      λ held. refl,
+    )
 
 pub loop-place-preserved : goal.loop-place-preserved
 loop-place-preserved c =
@@ -23,11 +27,17 @@ loop-place-preserved c =
     let slot = get_or slots place c.index-self-place.result in
     let own : place + 1 ≡ suc place = omega arith in
     let off : holds_in (suc place) slot c.args.agent c.args.message.now ≡ false =
-    ap (λ (n : ℕ). holds_in n slot c.args.agent c.args.message.now) (sym own) ∙ sym c.holds_back.ensures ∙ c.if-holds_back.false in
-    more-unheld slots place c.args.agent c.args.message.now c.loop-place.invariant (unheld-by slots place slot c.args.agent c.args.message.now (slice_get-get_or slots place c.index-self-place.result within) off)
+    ap (λ (n : ℕ). holds_in n slot c.args.agent c.args.message.now) (sym own)
+    ∙ sym c.holds_back.ensures ∙ c.if-holds_back.false in
+    more-unheld slots place c.args.agent c.args.message.now c.loop-place.invariant
+    (unheld-by slots place slot c.args.agent c.args.message.now
+    (slice_get-get_or slots place c.index-self-place.result within) off)
 
 pub returns : goal.returns
 returns c =
     let slots = c.args.self.now.slots in
-    let all : length slots ≤ c.loop-place.place = omega (arith, c.requires) in
-    (λ on. absurd (let it : false ≡ true = on in cc), λ held. absurd (unheld slots c.loop-place.place c.args.agent c.args.message.now all c.loop-place.invariant held))
+    let all : length slots ≤ c.loop-place.place = omega (arith, c.requires) in (
+      λ on. absurd (let it : false ≡ true = on in cc),
+      λ held. absurd (unheld slots
+          c.loop-place.place c.args.agent c.args.message.now all c.loop-place.invariant held),
+    )

@@ -5,4 +5,5 @@ use Rattle.scmi_c.proofs.aside.Aside.holds_message_back.Given as goal
 
 abbrev pub invariant-loop-place : goal.invariant-loop-place
 invariant-loop-place l =
-    (k : ℕ) → k < l.place → IsSomeAnd (command_at (suc k) (slice_get l.self.slots k)) (λ command. holds_back command l.agent l.message ≡ true) → ⊥
+    (k : ℕ) → k < l.place → IsSomeAnd (command_at (suc k) (slice_get l.self.slots k))
+    (λ command. holds_back command l.agent l.message ≡ true) → ⊥

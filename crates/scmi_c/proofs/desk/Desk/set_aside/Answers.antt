@@ -8,4 +8,5 @@ pub put-requires-clause-small : goal.put-requires-clause-small
 put-requires-clause-small c =
     let waiting = c.self.inside.waiting in
     let frame = c.self.inside.exchange.frame in
-    small c.self.inside.held (asked_of frame waiting) c.stand.ensures (kept-of (IsAskable c.self.inside.held) frame waiting (search rules) c.self.invariant.0.asked)
+    small c.self.inside.held (asked_of frame waiting) c.stand.ensures (kept-of
+    (IsAskable c.self.inside.held) frame waiting (search rules) c.self.invariant.0.asked)

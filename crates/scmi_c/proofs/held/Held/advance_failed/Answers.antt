@@ -11,7 +11,9 @@ pub returns-clause-driven : goal.returns-clause-driven
 returns-clause-driven c =
     some-and c.args.fault c.in-Some.fault _ (search rules)
     (drives_failed c.args.self.now _ c.in-Some.fault (search rules)
-    (c.and-said.ensures ∙ ap (λ (p : Held). and_asked p.said (option_map (λ effect. Refused effect c.in-Some.fault) (next_effect p.platform))) c.self.view_is))
+    (c.and-said.ensures ∙ ap (λ (p : Held). and_asked p.said (option_map
+    (λ effect. Refused effect c.in-Some.fault) (next_effect p.platform))) c.self.view_is))
 
 pub returns-clause-askable : goal.returns-clause-askable
-returns-clause-askable c = still-advance_failed c.args.self.now _ c.in-Some.fault (subst HasHistory c.self.view_is c.self.invariant) (search rules)
+returns-clause-askable c = still-advance_failed c.args.self.now _ c.in-Some.fault
+    (subst HasHistory c.self.view_is c.self.invariant) (search rules)

@@ -6,14 +6,19 @@ use Rattle.scmi_c.proofs.held.Held.advance_failed_at.Goals as goal
 
 pub returns-clause-pending : goal.returns-clause-pending
 returns-clause-pending c = λ h at.
-    let within : HasPendingAt (board_of c.args.self.now) h c.args.place = (c.promote.ensures.pending h at).0 (search rules) in (
+    let within : HasPendingAt (board_of c.args.self.now) h c.args.place =
+    (c.promote.ensures.pending h at).0 (search rules) in (
       λ done. within,
-      λ there. ends c.args.self.now c.promote.new.self c.args.place (search rules) h at within c.is_ok.result
-          (λ k stands not. (c.advance_failed.ensures.nothing k stands).0 (only-nothing c.advance_failed.result c.args.fault (sym c.is_ok.ensures.value ∙ not) c.advance_failed.ensures.errors)),
+      λ there. ends c.args.self.now c.promote.new.self c.args.place
+          (search rules) h at within c.is_ok.result
+          (λ k stands not. (c.advance_failed.ensures.nothing k stands).0
+          (only-nothing c.advance_failed.result c.args.fault
+          (sym c.is_ok.ensures.value ∙ not) c.advance_failed.ensures.errors)),
     )
 
 pub returns-clause-same : goal.returns-clause-same
 returns-clause-same c = λ not.
     let had = c.promote.ensures.history in
-    let done = (returns-clause-pending c had.0 had.1).1 ((c.promote.ensures.pending had.0 had.1).0 (search rules)) in
+    let done = (returns-clause-pending c had.0 had.1).1
+    ((c.promote.ensures.pending had.0 had.1).0 (search rules)) in
     absurd (let both : true ≡ false = sym done ∙ not in cc)

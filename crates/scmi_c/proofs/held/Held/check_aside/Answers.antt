@@ -11,4 +11,5 @@ returns-then-not-aside-clause-spared c =
     none-held (aside_by slots) (none-aside slots off) c.args.agent c.args.frame.now
 
 pub returns-then-not-aside-clause-asked : goal.returns-then-not-aside-clause-asked
-returns-then-not-aside-clause-asked c = (λ same. absurd (cc), λ both. absurd (returns-then-not-aside-clause-spared c both.1))
+returns-then-not-aside-clause-asked c =
+    (λ same. absurd (cc), λ both. absurd (returns-then-not-aside-clause-spared c both.1))

@@ -11,4 +11,5 @@ returns-in-Ok-clause-driven c =
     (λ h at. ap (λ (p : Held). p.said) c.self.view_is)
 
 pub returns-in-Ok-clause-askable : goal.returns-in-Ok-clause-askable
-returns-in-Ok-clause-askable c = still-reported c.args.self.now _ c.args.effect (subst HasHistory c.self.view_is c.self.invariant) (search rules)
+returns-in-Ok-clause-askable c = still-reported c.args.self.now _ c.args.effect
+    (subst HasHistory c.self.view_is c.self.invariant) (search rules)

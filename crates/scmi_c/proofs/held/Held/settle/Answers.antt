@@ -11,4 +11,5 @@ returns-clause-driven c = λ is.
     (λ h at. ap (λ (p : Held). p.said) c.self.view_is)
 
 pub returns-clause-askable : goal.returns-clause-askable
-returns-clause-askable c = still-settled c.args.self.now _ c.args.clock c.args.rate (subst HasHistory c.self.view_is c.self.invariant) (search rules)
+returns-clause-askable c = still-settled c.args.self.now _ c.args.clock c.args.rate
+    (subst HasHistory c.self.view_is c.self.invariant) (search rules)

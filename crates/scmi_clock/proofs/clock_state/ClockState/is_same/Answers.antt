@@ -15,8 +15,10 @@ pub returns-then-eq : goal.returns-then-eq
 returns-then-eq c =
     let mine = c.self.inside in
     let its = c.other.inside in
-    let rates : mine.rates ≡ its.rates = (bytes_eq-Decides mine.rates its.rates).0 (sym c.eq.ensures ∙ c.if-eq.true) in
+    let rates : mine.rates ≡ its.rates =
+    (bytes_eq-Decides mine.rates its.rates).0 (sym c.eq.ensures ∙ c.if-eq.true) in
     Decides-like c.eq-then-eq.result
-    (λ bits. sym c.self.view_is ∙ (λ i. record { rates = rates i; enabled = bits i }) ∙ c.other.view_is)
+    (λ bits. sym c.self.view_is ∙ (λ i. record { rates = rates i; enabled = bits i })
+    ∙ c.other.view_is)
     (λ is. ap (λ t. t.enabled) (c.self.view_is ∙ is ∙ sym c.other.view_is))
     (slice_eq-Decides bits_decide mine.enabled its.enabled c.eq-then-eq.result c.eq-then-eq.ensures)

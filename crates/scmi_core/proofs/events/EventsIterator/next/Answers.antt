@@ -5,7 +5,9 @@ use Rattle.scmi_core.proofs.events.EventsIterator.next.Goals as goal
 
 pub returns-then-self-eq0-clause-steps : goal.returns-then-self-eq0-clause-steps
 returns-then-self-eq0-clause-steps c =
-    let none = sym c.self.view_is ∙ events_of-none c.self.inside.count c.self.inside.words.now c.if-self-eq0.true in (none, none)
+    let none = sym c.self.view_is
+    ∙ events_of-none c.self.inside.count c.self.inside.words.now c.if-self-eq0.true in
+    (none, none)
 
 pub three_words-first-requires : goal.three_words-first-requires
 three_words-first-requires c =
@@ -19,7 +21,8 @@ split_at-requires c =
     let none = c.if-self-eq0.false in
     let some : 1 ≤ c.self.inside.count = omega (arith, none) in
     rw (c.payload_count.ensures, c.unpack-mark.ensures)
-    (first-within c.self.inside.count t.0 t.1 t.2 t.3.now some (subst (AreEvents c.self.inside.count) c.three_words-first.ensures c.self.invariant)).1
+    (first-within c.self.inside.count t.0 t.1 t.2 t.3.now some
+    (subst (AreEvents c.self.inside.count) c.three_words-first.ensures c.self.invariant)).1
 
 pub event_of-requires-clause-few : goal.event_of-requires-clause-few
 event_of-requires-clause-few c =
@@ -27,10 +30,12 @@ event_of-requires-clause-few c =
     let none = c.if-self-eq0.false in
     let some : 1 ≤ c.self.inside.count = omega (arith, none) in
     rw (c.split_at.ensures.front_len, c.payload_count.ensures, c.unpack-mark.ensures)
-    (first-within c.self.inside.count t.0 t.1 t.2 t.3.now some (subst (AreEvents c.self.inside.count) c.three_words-first.ensures c.self.invariant)).0
+    (first-within c.self.inside.count t.0 t.1 t.2 t.3.now some
+    (subst (AreEvents c.self.inside.count) c.three_words-first.ensures c.self.invariant)).0
 
 pub event_of-requires-clause-count : goal.event_of-requires-clause-count
-event_of-requires-clause-count c = rw (c.split_at.ensures.front_len, c.payload_count.ensures, c.unpack-mark.ensures) refl
+event_of-requires-clause-count c =
+    rw (c.split_at.ensures.front_len, c.payload_count.ensures, c.unpack-mark.ensures) refl
 
 pub invariant_of-self : goal.invariant_of-self
 invariant_of-self c =
@@ -38,15 +43,23 @@ invariant_of-self c =
     let none = c.if-self-eq0.false in
     let some : 1 ≤ c.self.inside.count = omega (arith, none) in
     rw (c.split_at.ensures.back, c.payload_count.ensures, c.unpack-mark.ensures)
-    (AreEvents-rest c.self.inside.count t.0 t.1 t.2 t.3.now some (subst (AreEvents c.self.inside.count) c.three_words-first.ensures c.self.invariant))
+    (AreEvents-rest c.self.inside.count t.0 t.1 t.2 t.3.now some
+    (subst (AreEvents c.self.inside.count) c.three_words-first.ensures c.self.invariant))
 
 pub returns-clause-steps : goal.returns-clause-steps
 returns-clause-steps c =
     let t = c.three_words-first.result in
     let none = c.if-self-eq0.false in
     let some : 1 ≤ c.self.inside.count = omega (arith, none) in
-    rw (c.event_of.ensures, c.split_at.ensures.front, c.split_at.ensures.back, c.payload_count.ensures, c.unpack-mark.ensures)
-    (sym c.self.view_is ∙ ap (events_of c.self.inside.count) c.three_words-first.ensures ∙ events_of-first c.self.inside.count t.0 t.1 t.2 t.3.now some)
+    rw (
+      c.event_of.ensures,
+      c.split_at.ensures.front,
+      c.split_at.ensures.back,
+      c.payload_count.ensures,
+      c.unpack-mark.ensures,
+    )
+    (sym c.self.view_is ∙ ap (events_of c.self.inside.count) c.three_words-first.ensures
+    ∙ events_of-first c.self.inside.count t.0 t.1 t.2 t.3.now some)
 
 pub returns-clause-goes : goal.returns-clause-goes
 returns-clause-goes c = rw (returns-clause-steps c) (search rules)

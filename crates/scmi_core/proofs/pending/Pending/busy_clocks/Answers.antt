@@ -12,10 +12,12 @@ loop-set-preserved c = record {
   marked = λ d small.
       let i = c.loop-set.set-index in
       let sets = c.as_slice-sets.result.now in
-      let more = any-more (λ p. is_set_by (resource.Clock d) p.setting) i sets c.set-item.result c.loop-set-test.true c.set-item.is in
+      let more = any-more (λ p. is_set_by (resource.Clock d) p.setting) i sets c.set-item.result
+      c.loop-set-test.true c.set-item.is in
       let old = list_any (λ p. is_set_by (resource.Clock d) p.setting) (take i sets) in
       elim c.match-set.branch [
-        | in-Rate w ↦ ap (λ n. bit_at n d == 1) w.busy-is ∙ w.mark-busy.ensures d small ∙ ap (λ b. (d == w.in-Rate.clock) || b) (c.loop-set.invariant.marked d small)
+        | in-Rate w ↦ ap (λ n. bit_at n d == 1) w.busy-is ∙ w.mark-busy.ensures d small
+            ∙ ap (λ b. (d == w.in-Rate.clock) || b) (c.loop-set.invariant.marked d small)
             ∙ ap (λ st. is_set_by (resource.Clock d) st || old) (sym w.in-Rate.is) ∙ sym more
         | in-State w ↦ ap (λ n. bit_at n d == 1) w.busy-is ∙ c.loop-set.invariant.marked d small
             ∙ ap (λ st. is_set_by (resource.Clock d) st || old) (sym w.in-State.is) ∙ sym more

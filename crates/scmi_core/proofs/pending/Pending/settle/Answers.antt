@@ -11,7 +11,8 @@ loop-set-preserved c =
     let none = c.set-item.result in
     let inside : i < length sets = omega arith in
     let one : suc i ≡ i + 1 = omega arith in
-    ap (λ setting. set c.loop-set.sets i (record (get_or c.loop-set.sets i none) { setting = setting })) c.with_rate-set.ensures
+    ap (λ setting. set c.loop-set.sets i
+    (record (get_or c.loop-set.sets i none) { setting = setting })) c.with_rate-set.ensures
     ∙ ap (λ xs. set xs i (f (get_or xs i none))) c.loop-set.invariant
     ∙ ap (λ p. set (mapped_to f i sets) i (f p)) (mapped-next f i sets none inside)
     ∙ mapped-more f i sets none inside

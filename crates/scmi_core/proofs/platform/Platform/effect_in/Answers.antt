@@ -7,10 +7,13 @@ use Rattle.scmi_core.proofs.platform.Platform.effect_in.Goals as goal
 
 pub returns-clause-effect : goal.returns-clause-effect
 returns-clause-effect c = λ h stands.
-    let last : c.args.agent ≤ length c.self.inside.plan.agents = subst (λ p. c.args.agent ≤ length p.board.agents) (sym c.self.view_is) c.requires.agent.1 in
-    subst (λ p. c.effect_of.result ≡ effect_after p.board h (Called c.args.agent c.args.frame.now)) c.self.view_is
+    let last : c.args.agent ≤ length c.self.inside.plan.agents =
+    subst (λ p. c.args.agent ≤ length p.board.agents) (sym c.self.view_is) c.requires.agent.1 in
+    subst (λ p. c.effect_of.result ≡ effect_after p.board h (Called c.args.agent c.args.frame.now))
+    c.self.view_is
     (c.effect_of.ensures
-    ∙ effect-table c.self.inside.plan c.self.inside.tables h c.args.agent c.args.frame.now (subst (λ p. StandsAfter p h) (sym c.self.view_is) stands)
+    ∙ effect-table c.self.inside.plan c.self.inside.tables h c.args.agent c.args.frame.now
+    (subst (λ p. StandsAfter p h) (sym c.self.view_is) stands)
     c.agents-agents.ensures.valid c.requires.agent.0 last)
 
 pub returns-clause-history : goal.returns-clause-history

@@ -9,7 +9,8 @@ returns-in-Ok-clause-happens g c = record {
   is_one = inl refl;
   moves = c.complete.ensures.event;
   hardware = λ h stands.
-      subst (λ effect. IsAsked (g.H.Hardware.asked c.args.hardware.now) (option_map Made effect) (g.H.Hardware.asked c.make.new.hardware))
+      subst (λ effect. IsAsked (g.H.Hardware.asked c.args.hardware.now) (option_map Made effect)
+      (g.H.Hardware.asked c.make.new.hardware))
       (c.effect_of_advance-effect.ensures h stands) c.in-Ok.ensures.made;
 }
 
@@ -19,6 +20,7 @@ returns-in-Err-clause-happens g c = record {
   is_one = inr (c.in-Err.fault, refl);
   moves = c.fail.ensures.event;
   hardware = λ h stands.
-      subst (λ effect. IsAsked (g.H.Hardware.asked c.args.hardware.now) (option_map (λ asked. Refused asked c.in-Err.fault) effect) (g.H.Hardware.asked c.make.new.hardware))
+      subst (λ effect. IsAsked (g.H.Hardware.asked c.args.hardware.now) (option_map
+      (λ asked. Refused asked c.in-Err.fault) effect) (g.H.Hardware.asked c.make.new.hardware))
       (c.effect_of_advance-effect.ensures h stands) c.in-Err.ensures.refused;
 }

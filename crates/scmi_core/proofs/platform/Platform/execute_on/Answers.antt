@@ -10,7 +10,8 @@ returns-in_default-clause-executes g c = record {
     is_one = inl refl;
     moves = c.execute.ensures.event;
     hardware = λ h stands.
-        subst (λ effect. IsAsked (g.H.Hardware.asked c.args.hardware.now) (option_map Made effect) (g.H.Hardware.asked c.args.hardware.now))
+        subst (λ effect. IsAsked (g.H.Hardware.asked c.args.hardware.now) (option_map Made effect)
+        (g.H.Hardware.asked c.args.hardware.now))
         (sym c.in_default.is ∙ c.effect_in.ensures.effect h stands) (λ asks asked. asked);
   };
   answer = λ h stands. ap Some (sym (c.execute.ensures.answer h stands));
@@ -28,7 +29,8 @@ returns-in-Ok-clause-executes g c = record {
     is_one = inl refl;
     moves = c.commit.ensures.event;
     hardware = λ h stands.
-        subst (λ effect. IsAsked (g.H.Hardware.asked c.args.hardware.now) (option_map Made effect) (g.H.Hardware.asked c.make.new.hardware))
+        subst (λ effect. IsAsked (g.H.Hardware.asked c.args.hardware.now) (option_map Made effect)
+        (g.H.Hardware.asked c.make.new.hardware))
         (sym c.in-Some.is ∙ c.effect_in.ensures.effect h stands) c.in-Ok.ensures.made;
   };
   answer = λ h stands. ap Some (sym (c.commit.ensures.answer h stands));
@@ -41,7 +43,8 @@ returns-in-Err-clause-executes g c = record {
     is_one = inr (c.in-Err.fault, refl);
     moves = c.answer_failed.ensures.event;
     hardware = λ h stands.
-        subst (λ effect. IsAsked (g.H.Hardware.asked c.args.hardware.now) (option_map (λ asked. Refused asked c.in-Err.fault) effect) (g.H.Hardware.asked c.make.new.hardware))
+        subst (λ effect. IsAsked (g.H.Hardware.asked c.args.hardware.now) (option_map (λ asked.
+        Refused asked c.in-Err.fault) effect) (g.H.Hardware.asked c.make.new.hardware))
         (sym c.in-Some.is ∙ c.effect_in.ensures.effect h stands) c.in-Err.ensures.refused;
   };
   answer = λ h stands. ap Some (sym c.answer_failed.ensures.answer);

@@ -5,4 +5,5 @@ pub mark_sent-requires-clause-some : goal.mark_sent-requires-clause-some
 mark_sent-requires-clause-some c =
     let agent = c.in_ok-check_agent.ensures.ok in
     rw c.reserve.ensures.events
-    (subst (λ messages. 0 < length messages) (c.self.invariant.outboxes c.args.agent agent.0 agent.1) (c.is_empty.ensures.some c.if-is_empty.false))
+    (subst (λ messages. 0 < length messages) (c.self.invariant.outboxes c.args.agent agent.0
+    agent.1) (c.is_empty.ensures.some c.if-is_empty.false))

@@ -7,7 +7,8 @@ use Rattle.scmi_core.proofs.tables.Tables.commit_message.Goals as goal
 
 pub change-requires : goal.change-requires
 change-requires c = record {
-  known = effect-known c.args.plan.now c.args.agent c.args.message.now (situation_in c.args.agent c.args.self.now) c.args.effect c.requires.effect;
+  known = effect-known c.args.plan.now c.args.agent c.args.message.now
+      (situation_in c.args.agent c.args.self.now) c.args.effect c.requires.effect;
 }
 
 pub returns-clause-answer : goal.returns-clause-answer
@@ -16,7 +17,9 @@ returns-clause-answer c =
     let s = situation_in c.args.agent c.args.self.now in
     let fit = effect-fits c.args.plan.now c.args.agent m s c.args.effect c.requires.effect in
     let set = changed-by c.args.plan.now c.args.agent m s c.args.effect c.requires.effect in
-    ap (λ words. Reply (message_with m.header words)) (c.set_payload.ensures ∙ sym set.reply) ∙ sym (answer-fits c.args.plan.now c.args.agent m s fit.0)
+    ap (λ words. Reply (message_with m.header words)) (c.set_payload.ensures ∙ sym set.reply)
+    ∙ sym (answer-fits c.args.plan.now c.args.agent m s fit.0)
 
 pub returns-clause-stepped : goal.returns-clause-stepped
-returns-clause-stepped c = committed c.args.plan.now c.args.self.now c.change.new.self c.args.agent c.args.message.now c.args.effect c.requires.effect c.change.ensures.changed
+returns-clause-stepped c = committed c.args.plan.now c.args.self.now c.change.new.self c.args.agent
+    c.args.message.now c.args.effect c.requires.effect c.change.ensures.changed

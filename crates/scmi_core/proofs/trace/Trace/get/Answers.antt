@@ -10,4 +10,5 @@ same (Some event) = refl
 pub returns : goal.returns
 returns c =
     sym (same c.nth.result)
-    ∙ nth_from_yields_List c.nth.result c.nth.new.self c.args.index c.nth.ensures.ran (YieldsList-from_first (λ x. x) (λ e. e) c.args.self.now.events c.events.ensures)
+    ∙ nth_from_yields_List c.nth.result c.nth.new.self c.args.index c.nth.ensures.ran
+    (YieldsList-from_first (λ x. x) (λ e. e) c.args.self.now.events c.events.ensures)

@@ -8,5 +8,6 @@ use Rattle.scmi_judge.proofs.guess.Guess.refuse.Goals as goal
 pub returns-clause-goes : goal.returns-clause-goes
 returns-clause-goes c went =
     let may : c.can_refuse.result ≡ true = search rules in
-    goes-unsent c.args.unseen c.args.self.now _ Refuse (AdvanceFailed HardwareError) (λ move is. is) (λ a. refl) (λ h entries stands. (refl, c.can_refuse.ensures.may may h stands))
+    goes-unsent c.args.unseen c.args.self.now _ Refuse (AdvanceFailed HardwareError) (λ move is. is)
+    (λ a. refl) (λ h entries stands. (refl, c.can_refuse.ensures.may may h stands))
     (c.advance_failed.ensures.event went) c.advance_failed.ensures.board refl refl

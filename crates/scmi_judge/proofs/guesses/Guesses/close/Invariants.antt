@@ -13,12 +13,16 @@ invariant-each l =
       keeps : KeepBoard l.initial.self l.self;
       others : l.self.others ≡ l.initial.self.others;
       places : places l.self ≡ places l.initial.self;
-      found : (board : Board) (entries : List Entry) → AreFound l.initial.self.unseen board entries [] l.initial.self.left.items
+      found : (board : Board) (entries : List Entry)
+          → AreFound l.initial.self.unseen board entries [] l.initial.self.left.items
           → AreFound l.initial.self.unseen board entries l.self.tried.items l.self.left.items;
-      kept : IsKept l.initial.self.unseen l.initial.self.left.items l.self.tried.items l.self.left.items;
+      kept : IsKept l.initial.self.unseen l.initial.self.left.items l.self.tried.items
+          l.self.left.items;
       tried : AreTried l.initial.self.unseen l.self.tried.items l.self.left.items;
-      real : (board : Board) (entries : List Entry) → All (IsReal l.initial.self.unseen board entries) l.initial.self.left.items
-          → All (IsReal l.initial.self.unseen board entries) l.self.tried.items × All (IsReal l.initial.self.unseen board entries) l.self.left.items;
+      real : (board : Board) (entries : List Entry)
+          → All (IsReal l.initial.self.unseen board entries) l.initial.self.left.items
+          → All (IsReal l.initial.self.unseen board entries) l.self.tried.items
+          × All (IsReal l.initial.self.unseen board entries) l.self.left.items;
     }
 
 abbrev pub decreases-each : goal.decreases-each

@@ -12,5 +12,7 @@ returns-then-show-clause-right c board entries real =
     let place = c.others.place - 1 in
     let less : place < length others = first_of (search rules, grind (arith, common_steps)) in
     let is : g ≡ get_or others place g = first_of (search rules, grind (arith, common_steps)) in
-    due-given r board entries c.in-Some.due c.args.entry.now c.in_place.result g c.copy_from-in-Some.new.self c.show.new.self c.in_place.ensures c.copy_from-in-Some.ensures
-    (c.show.ensures.gives c.if-show.true) (subst (IsReal r board entries) (sym is) (real place g less))
+    due-given r board entries c.in-Some.due c.args.entry.now c.in_place.result g
+    c.copy_from-in-Some.new.self c.show.new.self c.in_place.ensures c.copy_from-in-Some.ensures
+    (c.show.ensures.gives c.if-show.true)
+    (subst (IsReal r board entries) (sym is) (real place g less))

@@ -7,10 +7,12 @@ abbrev pub invariant-each : goal.invariant-each
 invariant-each l =
     record {
       keeps : KeepBoard l.initial.self l.self;
-      apart : l.self.left.items ≡ [] → l.self.others.items ++ reverse l.self.tried.items ≡ l.initial.self.others.items ++ reverse l.initial.self.tried.items;
+      apart : l.self.left.items ≡ [] → l.self.others.items ++ reverse l.self.tried.items
+          ≡ l.initial.self.others.items ++ reverse l.initial.self.tried.items;
       different : AreDifferent l.self.left.items;
       places : all_places l.self ≡ all_places l.initial.self;
-      given : AreGiven l.initial.self.unseen l.initial.self.tried.items l.entry l.self.left.items l.self.tried.items;
+      given : AreGiven l.initial.self.unseen l.initial.self.tried.items l.entry l.self.left.items
+          l.self.tried.items;
     }
 
 abbrev pub decreases-each : goal.decreases-each

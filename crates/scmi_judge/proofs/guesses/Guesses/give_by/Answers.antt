@@ -11,10 +11,13 @@ returns-clause-given c =
     elim c.else-show.branch [
       | else-show-via-then-show+else-not-has w ↦
           let has : w.has.result ≡ true = search rules in
-          given-again c.args.self.now.unseen c.args.guess c.copy_from.new.self c.show.new.self c.args.entry.now c.args.self.now.left.items c.copy_from.ensures
-          (c.show.ensures.gives w.if-show.true) (subst (IsIn c.show.new.self) w.deref.ensures.value (w.has.ensures.0 has))
+          given-again c.args.self.now.unseen c.args.guess c.copy_from.new.self c.show.new.self
+          c.args.entry.now c.args.self.now.left.items c.copy_from.ensures
+          (c.show.ensures.gives w.if-show.true)
+          (subst (IsIn c.show.new.self) w.deref.ensures.value (w.has.ensures.0 has))
       | else-show-via-else-show w ↦
-          given-nothing c.args.self.now.unseen c.args.guess c.copy_from.new.self c.args.entry.now c.args.self.now.left.items c.copy_from.ensures
+          given-nothing c.args.self.now.unseen c.args.guess c.copy_from.new.self c.args.entry.now
+          c.args.self.now.left.items c.copy_from.ensures
           (c.show.ensures.not w.if-show.false)
     ]
 
@@ -22,8 +25,10 @@ pub returns-then-not-has-clause-different : goal.returns-then-not-has-clause-dif
 returns-then-not-has-clause-different c =
     let hasnt : c.has.result ≡ false = search rules in
     different-left c.leave.result c.args.self.now.left.items _ c.show.new.self c.leave.ensures.kept
-    (absent c.args.self.now.left.items _ c.show.new.self c.has.result c.deref.ensures.value c.has.ensures hasnt)
+    (absent c.args.self.now.left.items _ c.show.new.self c.has.result c.deref.ensures.value
+    c.has.ensures hasnt)
 
 pub returns-then-not-has-clause-keeps : goal.returns-then-not-has-clause-keeps
 returns-then-not-has-clause-keeps c =
-    keep-made c.args.self.now _ c.args.guess c.copy_from.new.self c.show.new.self c.requires.boards c.copy_from.ensures c.show.ensures.board c.leave.ensures.keeps
+    keep-made c.args.self.now _ c.args.guess c.copy_from.new.self c.show.new.self c.requires.boards
+    c.copy_from.ensures c.show.ensures.board c.leave.ensures.keeps

@@ -10,7 +10,19 @@ go_on_from-requires c =
     let board = c.requires.boards.0 in
     let before = c.each.invariant.keeps.boards board c.requires.boards.1 in
     let both = of-popped board _ _ c.in-Some.guess c.in-Some.ensures.items before.others in
-    record { boards = (board, record { left = before.left; tried = before.tried; others = both.0; spare = before.spare; made = before.made }, both.1) }
+    record {
+      boards = (
+        board,
+        record {
+          left = before.left;
+          tried = before.tried;
+          others = both.0;
+          spare = before.spare;
+          made = before.made;
+        },
+        both.1,
+      );
+    }
 
 pub returns-in_err-go_on_from-clause-keeps : goal.returns-in_err-go_on_from-clause-keeps
 returns-in_err-go_on_from-clause-keeps c =
@@ -18,7 +30,13 @@ returns-in_err-go_on_from-clause-keeps c =
       boards = λ board of.
           let before = c.each.invariant.keeps.boards board of in
           let both = of-popped board _ _ c.in-Some.guess c.in-Some.ensures.items before.others in
-          c.go_on_from.ensures.keeps.boards board (record { left = before.left; tried = before.tried; others = both.0; spare = before.spare; made = before.made });
+          c.go_on_from.ensures.keeps.boards board (record {
+            left = before.left;
+            tried = before.tried;
+            others = both.0;
+            spare = before.spare;
+            made = before.made;
+          });
       unseen = c.go_on_from.ensures.keeps.unseen ∙ c.each.invariant.keeps.unseen;
     }
 
@@ -29,12 +47,25 @@ put-requires c =
       boards = λ board of.
           let before = c.each.invariant.keeps.boards board of in
           let both = of-popped board _ _ c.in-Some.guess c.in-Some.ensures.items before.others in
-          c.go_on_from.ensures.keeps.boards board (record { left = before.left; tried = before.tried; others = both.0; spare = before.spare; made = before.made });
+          c.go_on_from.ensures.keeps.boards board (record {
+            left = before.left;
+            tried = before.tried;
+            others = both.0;
+            spare = before.spare;
+            made = before.made;
+          });
       unseen = c.go_on_from.ensures.keeps.unseen ∙ c.each.invariant.keeps.unseen;
     } in
     let board = c.requires.boards.0 in
     let before = c.each.invariant.keeps.boards board c.requires.boards.1 in
-    record { boards = (board, from.boards board c.requires.boards.1, c.free_place.ensures ∙ (of-popped board _ _ c.in-Some.guess c.in-Some.ensures.items before.others).1) }
+    record {
+      boards = (
+        board,
+        from.boards board c.requires.boards.1,
+        c.free_place.ensures
+            ∙ (of-popped board _ _ c.in-Some.guess c.in-Some.ensures.items before.others).1,
+      );
+    }
 
 pub each-preserved : goal.each-preserved
 each-preserved c =
@@ -43,17 +74,26 @@ each-preserved c =
       boards = λ board of.
           let before = c.each.invariant.keeps.boards board of in
           let both = of-popped board _ _ c.in-Some.guess c.in-Some.ensures.items before.others in
-          c.go_on_from.ensures.keeps.boards board (record { left = before.left; tried = before.tried; others = both.0; spare = before.spare; made = before.made });
+          c.go_on_from.ensures.keeps.boards board (record {
+            left = before.left;
+            tried = before.tried;
+            others = both.0;
+            spare = before.spare;
+            made = before.made;
+          });
       unseen = c.go_on_from.ensures.keeps.unseen ∙ c.each.invariant.keeps.unseen;
     } in
     record {
-      keeps = keep-again c.args.self.now c.go_on_from.new.self c.put.new.self from c.put.ensures.keeps;
+      keeps = keep-again c.args.self.now c.go_on_from.new.self c.put.new.self from
+          c.put.ensures.keeps;
       places =
-          let popped : length c.each.self.others.items ≡ length c.pop.new.self.items + 1 = ap length c.in-Some.ensures.items ∙ length-append c.pop.new.self.items (c.in-Some.guess ∷ []) in
+          let popped : length c.each.self.others.items ≡ length c.pop.new.self.items + 1 = ap length
+          c.in-Some.ensures.items ∙ length-append c.pop.new.self.items (c.in-Some.guess ∷ []) in
           let gone = c.in_ok-go_on_from.ensures.places in
           let put = c.in_ok-put.ensures.places in
           let same = c.each.invariant.places in
-          let others = ap (λ v. length v.items) (c.put.ensures.others ∙ c.go_on_from.ensures.others) in
+          let others =
+          ap (λ v. length v.items) (c.put.ensures.others ∙ c.go_on_from.ensures.others) in
           omega (arith, popped, gone, put, same, others);
       tried = c.put.ensures.tried ∙ c.go_on_from.ensures.tried ∙ c.each.invariant.tried;
     }
@@ -65,13 +105,20 @@ returns-in_err-put-clause-keeps c =
       boards = λ board of.
           let before = c.each.invariant.keeps.boards board of in
           let both = of-popped board _ _ c.in-Some.guess c.in-Some.ensures.items before.others in
-          c.go_on_from.ensures.keeps.boards board (record { left = before.left; tried = before.tried; others = both.0; spare = before.spare; made = before.made });
+          c.go_on_from.ensures.keeps.boards board (record {
+            left = before.left;
+            tried = before.tried;
+            others = both.0;
+            spare = before.spare;
+            made = before.made;
+          });
       unseen = c.go_on_from.ensures.keeps.unseen ∙ c.each.invariant.keeps.unseen;
     } in
     keep-again c.args.self.now c.go_on_from.new.self c.put.new.self from c.put.ensures.keeps
 
 pub returns-clause-places : goal.returns-clause-places
 returns-clause-places c =
-    let none : length c.each.self.others.items ≡ 0 = first_of (search rules, grind (arith, common_steps)) in
+    let none : length c.each.self.others.items ≡ 0 =
+    first_of (search rules, grind (arith, common_steps)) in
     let same = c.each.invariant.places in
     omega (arith, none, same)

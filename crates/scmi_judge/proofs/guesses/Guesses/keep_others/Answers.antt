@@ -12,16 +12,26 @@ each-preserved c =
         boards = λ board of.
             let before = c.each.invariant.keeps.boards board of in
             let both = of-popped board _ _ c.in-Some.guess c.in-Some.ensures.items before.others in
-            record { left = of-pushed board _ _ c.in-Some.guess (is_ok c.push.result) c.push.ensures.items before.left both.1; tried = before.tried; others = both.0; spare = before.spare; made = before.made };
+            record {
+              left = of-pushed board _ _ c.in-Some.guess
+                  (is_ok c.push.result) c.push.ensures.items before.left both.1;
+              tried = before.tried;
+              others = both.0;
+              spare = before.spare;
+              made = before.made;
+            };
         unseen = c.each.invariant.keeps.unseen;
       };
       places =
-          let popped : length c.each.self.others.items ≡ length c.pop.new.self.items + 1 = ap length c.in-Some.ensures.items ∙ length-append c.pop.new.self.items (c.in-Some.guess ∷ []) in
-          let pushed : length c.push.new.self.items ≡ length c.each.self.left.items + 1 = first_of (search rules, grind (arith, common_steps)) in
+          let popped : length c.each.self.others.items ≡ length c.pop.new.self.items + 1 = ap length
+          c.in-Some.ensures.items ∙ length-append c.pop.new.self.items (c.in-Some.guess ∷ []) in
+          let pushed : length c.push.new.self.items ≡ length c.each.self.left.items + 1 =
+          first_of (search rules, grind (arith, common_steps)) in
           let same = c.each.invariant.places in
           omega (arith, popped, pushed, same);
       left = ap (λ xs. xs ++ reverse c.pop.new.self.items) c.in-Ok.ensures.items
-          ∙ moved-behind c.each.self.left.items c.pop.new.self.items c.each.self.others.items c.in-Some.guess c.in-Some.ensures.items ∙ c.each.invariant.left;
+          ∙ moved-behind c.each.self.left.items c.pop.new.self.items c.each.self.others.items
+          c.in-Some.guess c.in-Some.ensures.items ∙ c.each.invariant.left;
       tried = c.each.invariant.tried;
     }
 
@@ -31,6 +41,13 @@ returns-in_default-push-clause-keeps c =
       boards = λ board of.
           let before = c.each.invariant.keeps.boards board of in
           let both = of-popped board _ _ c.in-Some.guess c.in-Some.ensures.items before.others in
-          record { left = of-pushed board _ _ c.in-Some.guess (is_ok c.push.result) c.push.ensures.items before.left both.1; tried = before.tried; others = both.0; spare = before.spare; made = before.made };
+          record {
+            left = of-pushed board _ _ c.in-Some.guess
+                (is_ok c.push.result) c.push.ensures.items before.left both.1;
+            tried = before.tried;
+            others = both.0;
+            spare = before.spare;
+            made = before.made;
+          };
       unseen = c.each.invariant.keeps.unseen;
     }

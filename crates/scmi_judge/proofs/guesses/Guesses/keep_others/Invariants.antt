@@ -7,7 +7,8 @@ invariant-each l =
     record {
       keeps : KeepBoard l.initial.self l.self;
       places : all_places l.self ≡ all_places l.initial.self;
-      left : l.self.left.items ++ reverse l.self.others.items ≡ l.initial.self.left.items ++ reverse l.initial.self.others.items;
+      left : l.self.left.items ++ reverse l.self.others.items
+          ≡ l.initial.self.left.items ++ reverse l.initial.self.others.items;
       tried : l.self.tried ≡ l.initial.self.tried;
     }
 

@@ -13,7 +13,9 @@ invariant-acts l =
       others : l.self.others ≡ l.initial.self.others;
       places : places l.self ≡ places l.initial.self;
       grown : HaveGrown l.initial.self.unseen l.guess l.initial.self.left.items l.self.left.items;
-      found : StayFound l.initial.self.unseen l.guess l.initial.self.tried.items l.initial.self.left.items l.self.left.items;
+      found : StayFound l.initial.self.unseen l.guess l.initial.self.tried.items
+          l.initial.self.left.items l.self.left.items;
       each : (n : ℕ) (a : Act) → n < l.act-index → slice_get ACTS n ≡ Some a
-          → IsTriedAbove l.initial.self.unseen l.guess a 0 ((l.initial.self.tried.items ++ l.guess ∷ []) ++ l.self.left.items);
+          → IsTriedAbove l.initial.self.unseen l.guess a 0
+          ((l.initial.self.tried.items ++ l.guess ∷ []) ++ l.self.left.items);
     }

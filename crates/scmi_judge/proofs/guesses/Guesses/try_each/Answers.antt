@@ -24,7 +24,8 @@ numbers-init c =
       places = refl;
       grown = grown-none r g c.args.self.now.left.items;
       found = λ board entries found. found;
-      each = subst (λ n. IsTriedAbove r g c.args.act n all) (sym count) (each-above r g c.args.act all);
+      each = subst (λ n. IsTriedAbove r g c.args.act n all) (sym count)
+          (each-above r g c.args.act all);
     }
 
 pub numbers-preserved : goal.numbers-preserved
@@ -36,20 +37,26 @@ numbers-preserved c =
     let new = c.try_step.new.self.left.items in
     let before = c.numbers.invariant in
     let some : 0 < c.numbers.number = omega arith in
-    let grown = subst (λ x. HaveGrown x g c.numbers.self.left.items new) before.keeps.unseen c.in_ok-try_step.ensures.grown in
+    let grown = subst (λ x. HaveGrown x g c.numbers.self.left.items new) before.keeps.unseen
+    c.in_ok-try_step.ensures.grown in
     let step = step_of c.args.act c.numbers.number in
     let moves = subst (λ e. IsTried c.numbers.self.unseen g e
-    ((c.numbers.self.tried.items ++ g ∷ []) ++ new)) c.step.ensures c.in_ok-try_step.ensures.moves in
+    ((c.numbers.self.tried.items ++ g ∷ []) ++ new)) c.step.ensures
+    c.in_ok-try_step.ensures.moves in
     let tried = subst (λ x. IsTried x g step (all ++ new)) before.keeps.unseen
     (subst (λ v. IsTried c.numbers.self.unseen g step ((v.items ++ g ∷ []) ++ new))
     before.tried moves) in
     record {
-      keeps = keep-again c.args.self.now c.numbers.self c.try_step.new.self before.keeps c.try_step.ensures.keeps;
+      keeps = keep-again c.args.self.now c.numbers.self c.try_step.new.self before.keeps
+          c.try_step.ensures.keeps;
       tried = c.try_step.ensures.tried ∙ before.tried;
       others = c.try_step.ensures.others ∙ before.others;
       places = c.in_ok-try_step.ensures.places ∙ before.places;
-      grown = grown-again r g c.args.self.now.left.items c.numbers.self.left.items new before.grown grown;
-      found = stays-found r c.numbers.self.unseen g tried-before c.numbers.self.tried.items c.args.self.now.left.items c.numbers.self.left.items new before.keeps.unseen (ap (λ v. v.items) before.tried) before.found
+      grown = grown-again r g c.args.self.now.left.items c.numbers.self.left.items new
+          before.grown grown;
+      found = stays-found r c.numbers.self.unseen g tried-before c.numbers.self.tried.items
+          c.args.self.now.left.items c.numbers.self.left.items new before.keeps.unseen
+          (ap (λ v. v.items) before.tried) before.found
           c.in_ok-try_step.ensures.found;
       each = tried-down r g c.args.act c.numbers.number (all ++ new) some tried
           (above-later r g g c.args.act c.numbers.number all c.numbers.self.left.items new
@@ -59,8 +66,13 @@ numbers-preserved c =
 pub returns-in_err-try_step-clause-full : goal.returns-in_err-try_step-clause-full
 returns-in_err-try_step-clause-full c =
     let before = c.numbers.invariant in
-    let failed : c.from_residual.result ≡ Err c.in_err-try_step.field-0.0 = first_of (search rules, grind (arith, common_steps)) in
+    let failed : c.from_residual.result ≡ Err c.in_err-try_step.field-0.0 =
+    first_of (search rules, grind (arith, common_steps)) in
     if-err c.from_residual.result c.in_err-try_step.field-0.0 _ failed
     (λ full.
-    finds-later c.args.self.now.unseen c.numbers.self.unseen c.args.guess.now c.args.self.now.tried.items c.numbers.self.tried.items c.args.self.now.left.items c.numbers.self.left.items
-    (2 + places c.args.self.now) (2 + places c.numbers.self) before.keeps.unseen (ap (λ v. v.items) before.tried) (ap (λ n. 2 + n) before.places) before.found (c.in_err-try_step.ensures.full full))
+    finds-later c.args.self.now.unseen c.numbers.self.unseen c.args.guess.now
+    c.args.self.now.tried.items c.numbers.self.tried.items c.args.self.now.left.items
+    c.numbers.self.left.items
+    (2 + places c.args.self.now) (2 + places c.numbers.self) before.keeps.unseen
+    (ap (λ v. v.items) before.tried) (ap (λ n. 2 + n) before.places) before.found
+    (c.in_err-try_step.ensures.full full))

@@ -11,7 +11,8 @@ invariant-numbers l =
       others : l.self.others ≡ l.initial.self.others;
       places : places l.self ≡ places l.initial.self;
       grown : HaveGrown l.initial.self.unseen l.guess l.initial.self.left.items l.self.left.items;
-      found : StayFound l.initial.self.unseen l.guess l.initial.self.tried.items l.initial.self.left.items l.self.left.items;
+      found : StayFound l.initial.self.unseen l.guess l.initial.self.tried.items
+          l.initial.self.left.items l.self.left.items;
       each : IsTriedAbove l.initial.self.unseen l.guess l.act l.number
           ((l.initial.self.tried.items ++ l.guess ∷ []) ++ l.self.left.items);
     }

@@ -74,11 +74,16 @@ returns-clause-found c =
 pub returns-in_err-try_step-2-clause-full : goal.returns-in_err-try_step-2-clause-full
 returns-in_err-try_step-2-clause-full c =
     let one = c.try_step.new.self in
-    let failed : c.from_residual-in_err-try_step-2.result ≡ Err c.in_err-try_step-2.field-0.0 = first_of (search rules, grind (arith, common_steps)) in
+    let failed : c.from_residual-in_err-try_step-2.result ≡ Err c.in_err-try_step-2.field-0.0 =
+    first_of (search rules, grind (arith, common_steps)) in
     if-err c.from_residual-in_err-try_step-2.result c.in_err-try_step-2.field-0.0 _ failed
     (λ full.
-    finds-later c.args.self.now.unseen one.unseen c.args.guess.now c.args.self.now.tried.items one.tried.items c.args.self.now.left.items one.left.items (2 + places c.args.self.now) (2 + places one)
-    c.try_step.ensures.keeps.unseen (ap (λ v. v.items) c.try_step.ensures.tried) (ap (λ n. 2 + n) c.in_ok-try_step.ensures.places) c.in_ok-try_step.ensures.found (c.in_err-try_step-2.ensures.full full))
+    finds-later c.args.self.now.unseen one.unseen c.args.guess.now c.args.self.now.tried.items
+    one.tried.items c.args.self.now.left.items one.left.items (2 + places c.args.self.now)
+    (2 + places one)
+    c.try_step.ensures.keeps.unseen (ap (λ v. v.items) c.try_step.ensures.tried)
+    (ap (λ n. 2 + n) c.in_ok-try_step.ensures.places) c.in_ok-try_step.ensures.found
+    (c.in_err-try_step-2.ensures.full full))
 
 pub returns-in_err-try_acts-clause-full : goal.returns-in_err-try_acts-clause-full
 returns-in_err-try_acts-clause-full c =
@@ -89,11 +94,16 @@ returns-in_err-try_acts-clause-full c =
     let one = c.try_step.new.self in
     let two = c.try_step-2.new.self in
     let same = c.try_step.ensures.tried in
-    let both = stays-found r one.unseen g tried one.tried.items left one.left.items two.left.items c.try_step.ensures.keeps.unseen (ap (λ v. v.items) same) c.in_ok-try_step.ensures.found
+    let both = stays-found r one.unseen g tried one.tried.items left one.left.items two.left.items
+    c.try_step.ensures.keeps.unseen (ap (λ v. v.items) same) c.in_ok-try_step.ensures.found
     c.in_ok-try_step-2.ensures.found in
-    let failed : c.from_residual-in_err-try_acts.result ≡ Err c.in_err-try_acts.field-0.0 = first_of (search rules, grind (arith, common_steps)) in
+    let failed : c.from_residual-in_err-try_acts.result ≡ Err c.in_err-try_acts.field-0.0 =
+    first_of (search rules, grind (arith, common_steps)) in
     if-err c.from_residual-in_err-try_acts.result c.in_err-try_acts.field-0.0 _ failed
     (λ full.
-    finds-later r two.unseen g tried two.tried.items left two.left.items (2 + places c.args.self.now) (2 + places two)
-    (c.try_step-2.ensures.keeps.unseen ∙ c.try_step.ensures.keeps.unseen) (ap (λ v. v.items) (c.try_step-2.ensures.tried ∙ same))
-    (ap (λ n. 2 + n) (c.in_ok-try_step-2.ensures.places ∙ c.in_ok-try_step.ensures.places)) both (c.in_err-try_acts.ensures.full full))
+    finds-later r two.unseen g tried two.tried.items left two.left.items
+    (2 + places c.args.self.now) (2 + places two)
+    (c.try_step-2.ensures.keeps.unseen ∙ c.try_step.ensures.keeps.unseen)
+    (ap (λ v. v.items) (c.try_step-2.ensures.tried ∙ same))
+    (ap (λ n. 2 + n) (c.in_ok-try_step-2.ensures.places ∙ c.in_ok-try_step.ensures.places)) both
+    (c.in_err-try_acts.ensures.full full))

@@ -8,12 +8,15 @@ use Rattle.scmi_link.proofs.callee_rings.CalleeRings.close.Goals as goal
 use Rattle.scmi_link.proofs.callee_rings.CalleeRings.close.Goals.{After-push}
 
 -- the note went in, or nothing did
-noted : (c : After-push) → (sent c.push.new.self ≡ sent c.args.self.now.answers ++ Closing ∷ []) ⊎ (sent c.push.new.self ≡ sent c.args.self.now.answers)
-noted c = pushed c.push.result (sent c.args.self.now.answers) (sent c.push.new.self) _ _ _ c.push.ensures.ok c.push.ensures.full
+noted : (c : After-push) → (sent c.push.new.self ≡ sent c.args.self.now.answers ++ Closing ∷ [])
+    ⊎ (sent c.push.new.self ≡ sent c.args.self.now.answers)
+noted c = pushed c.push.result (sent c.args.self.now.answers)
+    (sent c.push.new.self) _ _ _ c.push.ensures.ok c.push.ensures.full
 
 pub invariant_of-self-clause-counted : goal.invariant_of-self-clause-counted
 invariant_of-self-clause-counted c =
-    let d = c.args.self.now in rw (closing_said (sent d.answers) (sent c.push.new.self) (noted c)) d.counted
+    let d = c.args.self.now in
+    rw (closing_said (sent d.answers) (sent c.push.new.self) (noted c)) d.counted
 
 pub invariant_of-self-clause-last : goal.invariant_of-self-clause-last
 invariant_of-self-clause-last c =
@@ -24,5 +27,6 @@ invariant_of-self-clause-last c =
 pub returns-then-not-self-clause-closes : goal.returns-then-not-self-clause-closes
 returns-then-not-self-clause-closes c =
     let d = c.args.self.now in
-    let answered = closing_said (sent d.answers) (sent c.push.new.self) (noted (goal.at.returns-then-not-self-clause-closes c).After-push) in
+    let answered = closing_said (sent d.answers) (sent c.push.new.self)
+    (noted (goal.at.returns-then-not-self-clause-closes c).After-push) in
     (search rules, λ i. record (callee_rings_view d) { answered = answered i; closed = true })

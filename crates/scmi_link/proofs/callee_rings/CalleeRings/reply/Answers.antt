@@ -6,13 +6,16 @@ use Rattle.scmi_link.proofs.RingSteps.{answered_said, answered_counted, answered
 use Rattle.scmi_link.proofs.callee_rings.CalleeRings.reply.Goals as goal
 
 pub invariant_of-self-clause-counted : goal.invariant_of-self-clause-counted
-invariant_of-self-clause-counted c = answered_counted c.args.self.now _ _ c.requires c.push_reserved.ensures.sent.0
+invariant_of-self-clause-counted c =
+    answered_counted c.args.self.now _ _ c.requires c.push_reserved.ensures.sent.0
 
 pub invariant_of-self-clause-noted : goal.invariant_of-self-clause-noted
-invariant_of-self-clause-noted c = answered_noted c.args.self.now _ _ c.requires c.push_reserved.ensures.sent.0
+invariant_of-self-clause-noted c =
+    answered_noted c.args.self.now _ _ c.requires c.push_reserved.ensures.sent.0
 
 pub invariant_of-self-clause-last : goal.invariant_of-self-clause-last
-invariant_of-self-clause-last c = answered_last c.args.self.now _ _ c.requires c.push_reserved.ensures.sent.0
+invariant_of-self-clause-last c =
+    answered_last c.args.self.now _ _ c.requires c.push_reserved.ensures.sent.0
 
 pub returns-clause-answered : goal.returns-clause-answered
 returns-clause-answered c =

@@ -2,4 +2,5 @@ use Rattle.scmi_link.proofs.RingIdentities.{callee_stays}
 use Rattle.scmi_link.proofs.ring_channel.RingChannelChannel.answer.Goals as goal
 
 pub invariant_of-callee : goal.invariant_of-callee
-invariant_of-callee c = record { identified = callee_stays _ _ _ c.args.callee.now.identified c.answer.ensures.rings }
+invariant_of-callee c =
+    record { identified = callee_stays _ _ _ c.args.callee.now.identified c.answer.ensures.rings }

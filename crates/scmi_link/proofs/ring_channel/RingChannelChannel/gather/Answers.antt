@@ -8,22 +8,30 @@ pub slots_beside-requires : goal.slots_beside-requires
 slots_beside-requires c =
     let p = c.args.caller in
     let q = c.args.callee in
-    (are_beside p.rings q.rings p.identity.numbers q.identity.numbers p.identified q.identified (c.requires.caller ∙ sym c.requires.callee)).frames
+    (are_beside p.rings q.rings p.identity.numbers q.identity.numbers p.identified q.identified
+    (c.requires.caller ∙ sym c.requires.callee)).frames
 
 pub slots_beside-requires-2 : goal.slots_beside-requires-2
 slots_beside-requires-2 c =
     let p = c.args.caller in
     let q = c.args.callee in
-    (are_beside p.rings q.rings p.identity.numbers q.identity.numbers p.identified q.identified (c.requires.caller ∙ sym c.requires.callee)).answers
+    (are_beside p.rings q.rings p.identity.numbers q.identity.numbers p.identified q.identified
+    (c.requires.caller ∙ sym c.requires.callee)).answers
 
 pub returns-clause-agree : goal.returns-clause-agree
 returns-clause-agree c =
-    agree c.args.caller.rings c.args.callee.rings (known_items c.slots_beside.new.self) (known_items c.slots_beside-2.new.self)
-    (at_start _ _ _ _ _ c.slots_beside.ensures.looked.1 c.slots_beside.ensures.producer.1 c.slots_beside.ensures.fifo)
-    (at_start _ _ _ _ _ c.slots_beside-2.ensures.looked.1 c.slots_beside-2.ensures.producer.1 c.slots_beside-2.ensures.fifo)
+    agree c.args.caller.rings c.args.callee.rings (known_items c.slots_beside.new.self)
+    (known_items c.slots_beside-2.new.self)
+    (at_start _ _ _ _ _ c.slots_beside.ensures.looked.1 c.slots_beside.ensures.producer.1
+    c.slots_beside.ensures.fifo)
+    (at_start _ _ _ _ _ c.slots_beside-2.ensures.looked.1 c.slots_beside-2.ensures.producer.1
+    c.slots_beside-2.ensures.fifo)
 
 pub returns-clause-closed : goal.returns-clause-closed
 returns-clause-closed c =
-    closed_ends c.args.caller.rings c.args.callee.rings (known_items c.slots_beside.new.self) (known_items c.slots_beside-2.new.self)
-    (at_start _ _ _ _ _ c.slots_beside.ensures.looked.1 c.slots_beside.ensures.producer.1 c.slots_beside.ensures.fifo)
-    (at_start _ _ _ _ _ c.slots_beside-2.ensures.looked.1 c.slots_beside-2.ensures.producer.1 c.slots_beside-2.ensures.fifo)
+    closed_ends c.args.caller.rings c.args.callee.rings (known_items c.slots_beside.new.self)
+    (known_items c.slots_beside-2.new.self)
+    (at_start _ _ _ _ _ c.slots_beside.ensures.looked.1 c.slots_beside.ensures.producer.1
+    c.slots_beside.ensures.fifo)
+    (at_start _ _ _ _ _ c.slots_beside-2.ensures.looked.1 c.slots_beside-2.ensures.producer.1
+    c.slots_beside-2.ensures.fifo)

@@ -2,4 +2,7 @@ use Rattle.scmi_link.proofs.RingIdentities.{caller_stays}
 use Rattle.scmi_link.proofs.ring_channel.RingChannelChannel.post_malformed.Goals as goal
 
 pub invariant_of-caller : goal.invariant_of-caller
-invariant_of-caller c = record { identified = caller_stays _ _ _ c.args.caller.now.identified c.post_malformed.ensures.rings }
+invariant_of-caller c = record {
+  identified =
+      caller_stays _ _ _ c.args.caller.now.identified c.post_malformed.ensures.rings;
+}

@@ -15,7 +15,8 @@ returns-in-None-clause-rules c = valid c.args.raw.now
 pub returns-in-Some-clause-accepted : goal.returns-in-Some-clause-accepted
 returns-in-Some-clause-accepted c = λ law.
     let none : first_fault (asked_board c.args.raw.now) ≡ None = (valid c.args.raw.now).1 law in
-    let some : first_fault (asked_board c.args.raw.now) ≡ Some c.in-Some.fault = cc c.in-Some.ensures.fault in
+    let some : first_fault (asked_board c.args.raw.now) ≡ Some c.in-Some.fault =
+    cc c.in-Some.ensures.fault in
     cc
 
 pub returns-in-Some-clause-rules : goal.returns-in-Some-clause-rules

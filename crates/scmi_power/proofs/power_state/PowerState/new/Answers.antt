@@ -10,12 +10,15 @@ pub loop-domain-preserved : goal.loop-domain-preserved
 loop-domain-preserved c =
     let law = c.domains-domain-end.ensures.valid in
     let small : c.loop-domain.domain < length c.loop-domain.states =
-    let r = c.loop-domain.invariant.room in omega (arith, law.few_domains, c.domains-domain-end.ensures.count) in
+    let r = c.loop-domain.invariant.room in
+    omega (arith, law.few_domains, c.domains-domain-end.ensures.count) in
     record {
       room = rw length-set c.loop-domain.invariant.room;
       started = below_more _ _
-          (λ d h. let other : d ≢ c.loop-domain.domain = omega arith in rw get_or-set_other (c.loop-domain.invariant.started d h))
-          (rw get_or-set_same (c.starting_state-state.ensures ∙ ap starting_state c.domain.ensures));
+          (λ d h. let other : d ≢ c.loop-domain.domain = omega arith in
+          rw get_or-set_other (c.loop-domain.invariant.started d h))
+          (rw get_or-set_same
+          (c.starting_state-state.ensures ∙ ap starting_state c.domain.ensures));
     }
 
 -- a table of zeros has 0 at each place
@@ -27,4 +30,5 @@ all_zero (suc n) (suc d) = all_zero n d
 pub returns-clause-subscribed : goal.returns-clause-subscribed
 returns-clause-subscribed c = λ a d. none a d where
   none : (a d : ℕ) → (bit_at (get_or (replicate DOMAINS 0) d 0) (a - 1) == 1) ≡ false
-  none a d = ap (λ n. bit_at n (a - 1) == 1) (all_zero DOMAINS d) ∙ ap (λ n. n == 1) (bit_at-zero (a - 1))
+  none a d = ap (λ n. bit_at n (a - 1) == 1) (all_zero DOMAINS d)
+      ∙ ap (λ n. n == 1) (bit_at-zero (a - 1))

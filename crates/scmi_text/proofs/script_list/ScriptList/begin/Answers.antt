@@ -12,11 +12,15 @@ invariant_of-self-2 c =
     let before = c.args.self.now in
     let had = agents_of before.scripts.items in
     let agent = c.args.agent in
-    let agents = agents_pushed before.scripts.items c.reserve.new.self.items c.push_reserved.new.self.items (record { agent = agent; lines = c.new.result }) c.in_ok-reserve.ensures.items c.push_reserved.ensures.items in
-    let fresh = not_begun c.in-Ok.is_first _ (list_any (nat_eq agent) had) c.in-Ok.ensures.added c.if-not-is_first.false (before.begun_are agent) in
+    let agents = agents_pushed before.scripts.items c.reserve.new.self.items
+    c.push_reserved.new.self.items (record { agent = agent; lines = c.new.result })
+    c.in_ok-reserve.ensures.items c.push_reserved.ensures.items in
+    let fresh = not_begun c.in-Ok.is_first _ (list_any (nat_eq agent) had) c.in-Ok.ensures.added
+    c.if-not-is_first.false (before.begun_are agent) in
     record {
       within = rw agents (within_more before.agents had agent before.within c.requires);
-      begun_are = λ q. rw agents (begun_more before.begun c.insert.new.self had agent c.in-Ok.ensures.updates before.begun_are q);
+      begun_are = λ q. rw agents (begun_more before.begun c.insert.new.self had agent
+          c.in-Ok.ensures.updates before.begun_are q);
       distinct = rw agents (IsDistinct-push nat_eq_equiv had agent before.distinct fresh);
     }
 
@@ -24,11 +28,17 @@ pub returns-then-not-is_first-clause-script : goal.returns-then-not-is_first-cla
 returns-then-not-is_first-clause-script c =
     let before = c.args.self.now in
     let agent = c.args.agent in
-    script_again before.scripts.items agent (begun_before c.in-Ok.is_first _ (list_any (nat_eq agent) (agents_of before.scripts.items)) c.in-Ok.ensures.added c.if-not-is_first.true (before.begun_are agent))
+    script_again before.scripts.items agent
+    (begun_before c.in-Ok.is_first _ (list_any (nat_eq agent) (agents_of before.scripts.items))
+    c.in-Ok.ensures.added c.if-not-is_first.true (before.begun_are agent))
 
 pub returns-clause-script : goal.returns-clause-script
 returns-clause-script c =
     let before = c.args.self.now in
     let agent = c.args.agent in
-    let fresh = not_begun c.in-Ok.is_first _ (list_any (nat_eq agent) (agents_of before.scripts.items)) c.in-Ok.ensures.added c.if-not-is_first.false (before.begun_are agent) in
-    script_more before.scripts.items c.reserve.new.self.items c.push_reserved.new.self.items agent (record { agent = agent; lines = c.new.result }) c.in_ok-reserve.ensures.items c.push_reserved.ensures.items refl c.new.ensures.items fresh
+    let fresh =
+    not_begun c.in-Ok.is_first _ (list_any (nat_eq agent) (agents_of before.scripts.items))
+    c.in-Ok.ensures.added c.if-not-is_first.false (before.begun_are agent) in
+    script_more before.scripts.items c.reserve.new.self.items c.push_reserved.new.self.items agent
+    (record { agent = agent; lines = c.new.result }) c.in_ok-reserve.ensures.items
+    c.push_reserved.ensures.items refl c.new.ensures.items fresh

@@ -10,7 +10,9 @@ use Rattle.scmi_threads.proofs.script_run.ScriptRun.run.Given as goal
 abbrev pub invariant-orders : goal.invariant-orders
 invariant-orders g l = record {
   ran : HasRun l.fn.self l.self;
-  followed : IsEmptyLog l.fn.self.log → l.fn.self.end.caller ≡ new_caller → IsUndisturbed l.self.end.caller → HasFollowed g.C.Channel.FULL (take l.order-index l.script) l.self.end.caller l.self.log;
+  followed : IsEmptyLog l.fn.self.log
+      → l.fn.self.end.caller ≡ new_caller → IsUndisturbed l.self.end.caller
+      → HasFollowed g.C.Channel.FULL (take l.order-index l.script) l.self.end.caller l.self.log;
   line : l.line ≡ min l.order-index (2 ^ 32 - 1);
   gate : (k : ℕ) → k < l.order-index → g.G.Gate.asked l.fn.gate l.fn.self.end.id (line_number k);
 }

@@ -8,5 +8,6 @@ invariant-calls g l = record {
   ran : HasRun l.fn.self l.self;
   lines : l.self.log.lines ≡ l.fn.self.log.lines;
   rest : LeavesRest l.fn.self.end.caller l.self.end.caller l.fn.self.log l.self.log;
-  asking : IsUndisturbed l.self.end.caller → IsAtRest l.fn.self.log → HasAskedFor l.fn.self.end.caller.closed l.fn.domain l.fn.state l._calls l.fn.self.log l.self.log;
+  asking : IsUndisturbed l.self.end.caller → IsAtRest l.fn.self.log → HasAskedFor
+      l.fn.self.end.caller.closed l.fn.domain l.fn.state l._calls l.fn.self.log l.self.log;
 }

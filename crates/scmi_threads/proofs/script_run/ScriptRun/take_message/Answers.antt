@@ -5,7 +5,9 @@ use Rattle.scmi_threads.proofs.ScriptRunLemmas.{has_run}
 use Rattle.scmi_threads.proofs.script_run.ScriptRun.take_message.Goals as goal
 
 pub returns-in_err-reserve_message-clause-looks : goal.returns-in_err-reserve_message-clause-looks
-returns-in_err-reserve_message-clause-looks g c = not_looked c.from_residual.result c.args.self.now.log c.reserve_message.new.self (search rules) c.reserve_message.ensures.same.looks.messages
+returns-in_err-reserve_message-clause-looks g c =
+    not_looked c.from_residual.result c.args.self.now.log c.reserve_message.new.self
+    (search rules) c.reserve_message.ensures.same.looks.messages
 
 pub turns-init : goal.turns-init
 turns-init g c =
@@ -14,14 +16,23 @@ turns-init g c =
       ran = record { a2p = refl; p2a = refl; script = refl; id = refl; undisturbed = λ u. u };
       p2a = c.in_ok-reserve_message.ensures.p2a;
       room = c.in_ok-reserve_message.ensures.room;
-      unmoved = record { posted = same.posted; read = same.read; stopped = same.stopped; closed = refl; reply_looks = same.looks.replies };
+      unmoved = record {
+        posted = same.posted;
+        read = same.read;
+        stopped = same.stopped;
+        closed = refl;
+        reply_looks = same.looks.replies;
+      };
       taken = same.p2a;
       lines = same.lines;
-      looks = none_counted c.args.self.now.log.message_looks c.reserve_message.new.self.message_looks same.looks.messages;
+      looks = none_counted c.args.self.now.log.message_looks
+          c.reserve_message.new.self.message_looks same.looks.messages;
     }
 
 pub returns-then-look-clause-looks : goal.returns-then-look-clause-looks
-returns-then-look-clause-looks g c = message_came c.turns.counter c.args.self.now.log c.turns.self.log c.look.new.self.log c.turns-test.true c.turns.invariant.looks c.look.ensures.counted
+returns-then-look-clause-looks g c =
+    message_came c.turns.counter c.args.self.now.log c.turns.self.log c.look.new.self.log
+    c.turns-test.true c.turns.invariant.looks c.look.ensures.counted
 
 pub turns-preserved : goal.turns-preserved
 turns-preserved g c =
@@ -33,8 +44,10 @@ turns-preserved g c =
       ran = has_run before mid after c.turns.invariant.ran c.look.ensures.ran;
       p2a = subst (λ v. vec_len v < vec_capacity v) (sym none.0) c.turns.invariant.p2a;
       room = subst (λ v. vec_len v < vec_capacity v) (sym none.1) c.turns.invariant.room;
-      unmoved = moved_on before.end.caller mid.end.caller after.end.caller before.log mid.log after.log c.turns.invariant.unmoved c.look.ensures.unmoved;
+      unmoved = moved_on before.end.caller mid.end.caller after.end.caller before.log mid.log
+          after.log c.turns.invariant.unmoved c.look.ensures.unmoved;
       taken = ap (λ v. v.items) none.0 ∙ c.turns.invariant.taken;
       lines = ap (λ v. v.items) none.1 ∙ c.turns.invariant.lines;
-      looks = next_counted c.turns.counter before.log.message_looks mid.log.message_looks after.log.message_looks c.turns.invariant.looks c.look.ensures.counted;
+      looks = next_counted c.turns.counter before.log.message_looks mid.log.message_looks
+          after.log.message_looks c.turns.invariant.looks c.look.ensures.counted;
     }

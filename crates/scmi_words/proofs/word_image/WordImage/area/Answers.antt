@@ -9,8 +9,16 @@ unfolding put_words
 loop-i-init c = (omega arith, c.write_word.ensures)
 
 pub loop-i-preserved : goal.loop-i-preserved
-loop-i-preserved c = (omega arith, written_more c.args.self.now.words _ c.loop-i.area c.write_word-in-loop-i.new.bytes c.loop-i.i c.loop-i.invariant.0 (search rules) c.loop-i.invariant.1 (c.write_word-in-loop-i.ensures ∙ ap (λ (k : ℕ). put_word k (slice_index c.args.self.now.words c.loop-i.i) c.loop-i.area) (omega arith)))
+loop-i-preserved c = (
+  omega arith,
+  written_more c.args.self.now.words
+      _ c.loop-i.area c.write_word-in-loop-i.new.bytes c.loop-i.i c.loop-i.invariant.0
+      (search rules) c.loop-i.invariant.1
+      (c.write_word-in-loop-i.ensures ∙ ap (λ (k : ℕ). put_word k
+      (slice_index c.args.self.now.words c.loop-i.i) c.loop-i.area) (omega arith)),
+)
 
 pub returns : goal.returns
 unfolding area_of
-returns c = c.loop-i.invariant.1 ∙ all_written c.args.self.now.words _ c.loop-i.i (search rules) (omega arith)
+returns c = c.loop-i.invariant.1
+    ∙ all_written c.args.self.now.words _ c.loop-i.i (search rules) (omega arith)
