@@ -22,18 +22,21 @@ use Rattle.scmi_core.specs.Deed.{success_with, success_of}
 use Rattle.scmi_core.specs.Commands.{permission_in, rate_later_as}
 use Rattle.scmi_clock.specs.ClockProtocol.{clock_effect}
 use Rattle.scmi_core.specs.Subscriptions.{subscription, subscription_after_reset}
-use Rattle.scmi_core.specs.Pending.{acceptance, rate_set, made_pending}
+use Rattle.scmi_core.specs.Pending.{acceptance, has_set_of, made_pending, rate_set}
 use Rattle.scmi_core.specs.Value.{Change, change_now, given, Thing, State, Rate, Enabled, bit_value, value_in, change_of}
 use Rattle.scmi_core.specs.Tables.{outbox_at, value_at, IsThing, IsOfBoard, situation_in}
 use Rattle.scmi_core.specs.Outbox.{made_in}
 use Rattle.scmi_core.specs.Step.{HasStepped, SameButPending}
 use Rattle.scmi_core.proofs.Situations.{nothing-made}
-use Rattle.scmi_core.proofs.Steps.{all_none, all_one, same_box, says_nothing, success-mapped, success-then}
-
-pick : {A : Type 0} (b : Bool) (x old : A)
-    → unwrap_or (if b then Some x else None) old ≡ (if b then x else old)
-pick true x old = refl
-pick false x old = refl
+use Rattle.std.specs.Int.{bit_at}
+use Rattle.scmi_plan.specs.declared.resource.Resource.TheVariants as resource
+use Rattle.scmi_plan.specs.declared.load.Load.{Load}
+use Rattle.scmi_clock.proofs.ClockLaws as clock_same
+use Rattle.scmi_clock.specs.ClockReply.{clock_reply}
+use Rattle.scmi_clock.specs.ClockTable as clock_table
+use Rattle.scmi_core.specs.Situation.{clock_view, has_room}
+use Rattle.scmi_core.specs.Reply.{reply_words}
+use Rattle.scmi_core.proofs.Steps.{all_none, all_one, pick, same_box, says_nothing, success-mapped, success-then}
 
 abbrev pub rate_change : ℕ → ℕ × ℕ → Change
 rate_change a set = record { thing = Rate set.0; value = set.1; causer = a }
@@ -286,3 +289,30 @@ base-stepped board t new base' a header c reply permits ends states bases clocks
       values (State d) = ap (λ s. get_or s d 0) states
       values (Rate k) = ap (λ p. rate_at p k) clocks
       values (Enabled k) = ap (λ p. bit_value (enabled_at p k)) clocks
+
+bit_said : (b : Bool) → b ≡ (bit_value b == 1)
+bit_said true = refl
+bit_said false = refl
+
+-- what the protocol replies by tables and a load, which only a set reads, is the reply in the
+-- situation of the tables
+pub clock-reply : (board : Board) (t : Tables) (a : ℕ) (load : Load) (c : ClockCommand)
+    → length board.clocks ≤ 32
+    → IfSome (clock_table.set_clock c) (λ set. (d : ℕ) → d < 32
+    → (bit_at load.busy d == 1) ≡ has_set_of (resource.Clock d) t.pending)
+    → IfSome (clock_table.set_clock c) (λ set. load.room ≡ has_room board a (situation_in a t))
+    → clock_reply board (clock_table.view_of board t.base t.clocks load a) c
+    ≡ reply_words board a (situation_in a t) (Ok (Clock c))
+unfolding reply_words
+clock-reply board t a load c few busy room =
+    clock_same.clock_reply-loaded board (clock_table.view_of board t.base t.clocks load a)
+    (clock_view board a (situation_in a t)) c refl
+    (λ e. bit_said (clock_table.enabled_at t.clocks e)) refl refl
+    (below (clock_table.set_clock c) busy) room
+  where
+    below : (o : Option ℕ) → IfSome o (λ set. (d : ℕ) → d < 32
+        → (bit_at load.busy d == 1) ≡ has_set_of (resource.Clock d) t.pending)
+        → IfSome o (λ set. (d : ℕ) → d < length board.clocks
+        → (bit_at load.busy d == 1) ≡ has_set_of (resource.Clock d) t.pending)
+    below None all = all
+    below (Some d) all = λ e small. all e (omega arith)

@@ -1,6 +1,5 @@
 -- Situations that say the same of a board's things: the same replies, and the same messages.
-use Rattle.std.proofs.Common.{◌≡◌, ℕ, ◌+◌, ◌<◌, ◌≤◌, ◌==◌, ◌&&◌, nat_lt, Bool, true, false, not, List, [], ◌∷◌, ◌++◌, length, Option, Some, None, IfSome, Result, Ok, Err, refl, ap, ◌∙◌, arith, if◌then◌else◌}
-use Rattle.std.specs.Int.{bit_at}
+use Rattle.std.proofs.Common.{◌≡◌, ℕ, ◌+◌, ◌<◌, ◌≤◌, ◌==◌, ◌&&◌, nat_lt, Bool, true, false, not, List, [], ◌∷◌, ◌++◌, length, Option, Some, None, IfSome, Result, Ok, Err, refl, ap, ◌∙◌, if◌then◌else◌}
 use Rattle.std.specs.Option.{option_map_or}
 use Rattle.std.proofs.lemmas.List.{append-nil}
 use Rattle.scmi_codec.specs.declared.status.Status.{Status}
@@ -9,31 +8,20 @@ use Rattle.scmi_codec.specs.declared.message.Message.{Message}
 use Rattle.scmi_codec.specs.declared.frame.Frame.{Frame}
 use Rattle.scmi_codec.specs.declared.frame.Frame.TheVariants.{Good, Malformed}
 use Rattle.scmi_codec.specs.declared.command.Command as codec
-use Rattle.scmi_codec.specs.declared.command.Command.TheVariants.{Power, Clock}
 use Rattle.scmi_plan.specs.Board.{Board, channel_of}
 use Rattle.scmi_plan.specs.declared.resource.Resource.TheVariants as resource
 use Rattle.scmi_plan.specs.declared.scope.Scope.{Scope}
 use Rattle.scmi_base.proofs.MaySame.{may-same}
-use Rattle.scmi_power.proofs.PowerLaws as power_same
-use Rattle.scmi_clock.proofs.ClockLaws as clock_same
-use Rattle.scmi_codec.specs.declared.power_command.PowerCommand.{PowerCommand}
-use Rattle.scmi_codec.specs.declared.clock_command.ClockCommand.{ClockCommand}
-use Rattle.scmi_plan.specs.declared.load.Load.{Load}
-use Rattle.scmi_power.specs.PowerReply.{power_reply}
-use Rattle.scmi_power.specs.PowerTable as power_table
-use Rattle.scmi_clock.specs.ClockReply.{clock_reply}
-use Rattle.scmi_clock.specs.ClockTable as clock_table
-use Rattle.scmi_core.specs.declared.tables.Tables.{Tables}
 use Rattle.scmi_core.specs.declared.pending_set.PendingSet.{PendingSet}
 use Rattle.scmi_core.specs.declared.event.Event.TheVariants.{Promoted, Restarted, Sent, Settled}
 use Rattle.scmi_core.specs.Deed.{Deed}
-use Rattle.scmi_core.specs.Value.{Change, Thing, State, Rate, Enabled, bit_value}
+use Rattle.scmi_core.specs.Value.{Change, Thing, State, Rate, Enabled}
 use Rattle.scmi_core.specs.Pending.{has_room_beside, has_set_of, pending_sets, sets_by}
-use Rattle.scmi_core.specs.Situation.{Situation, clock_view, has_room, power_view, views}
+use Rattle.scmi_core.specs.Situation.{Situation, has_room, views}
 use Rattle.scmi_core.specs.Outbox.{messages_made, made_in, notice_in, outbox_after, response_for, sent_count, situation_after, state_changed}
 use Rattle.scmi_core.specs.ReadCommand.{command_on}
 use Rattle.scmi_core.specs.Reply.{answer_in, fits_channel, reply_words, words_given}
-use Rattle.scmi_core.specs.Tables.{IsThing, situation_in}
+use Rattle.scmi_core.specs.Tables.{IsThing}
 use Rattle.scmi_core.proofs.CommandLaws.{SameViews, reply_by-same}
 use Rattle.scmi_core.proofs.Deeds.{messages_made-push, outbox-push}
 
@@ -174,50 +162,3 @@ module _ (board : Board) (a : ℕ) (s u : Situation) (same : SameSituation board
       then option_map_or (notice_in s) change [] else [])) same.outbox
       ∙ ap (λ n. responses ++ (if nat_lt (length u.outbox + length responses + length
       (sets_by a left)) 16 then n else [])) (notices-same change known)
-
--- what the protocols of power domains and clocks reply by tables and a load, which only a set
--- reads, is the reply in the situation of the tables
-pub power-reply : (board : Board) (t : Tables) (a : ℕ) (load : Load) (c : PowerCommand)
-    → length board.domains ≤ 32
-    → IfSome (power_table.set_domain c) (λ set. (d : ℕ) → d < 32
-    → (bit_at load.busy d == 1) ≡ has_set_of (resource.Domain d) t.pending)
-    → IfSome (power_table.set_domain c) (λ set. load.room ≡ has_room board a (situation_in a t))
-    → power_reply board (power_table.view_of board t.base t.power load a) c
-    ≡ reply_words board a (situation_in a t) (Ok (Power c))
-unfolding reply_words
-power-reply board t a load c few busy room =
-    power_same.power_reply-loaded board (power_table.view_of board t.base t.power load a)
-    (power_view board a (situation_in a t)) c refl refl refl
-    (below (power_table.set_domain c) busy) room
-  where
-    below : (o : Option ℕ) → IfSome o (λ set. (d : ℕ) → d < 32
-        → (bit_at load.busy d == 1) ≡ has_set_of (resource.Domain d) t.pending)
-        → IfSome o (λ set. (d : ℕ) → d < length board.domains
-        → (bit_at load.busy d == 1) ≡ has_set_of (resource.Domain d) t.pending)
-    below None all = all
-    below (Some d) all = λ e small. all e (omega arith)
-
-bit_said : (b : Bool) → b ≡ (bit_value b == 1)
-bit_said true = refl
-bit_said false = refl
-
-pub clock-reply : (board : Board) (t : Tables) (a : ℕ) (load : Load) (c : ClockCommand)
-    → length board.clocks ≤ 32
-    → IfSome (clock_table.set_clock c) (λ set. (d : ℕ) → d < 32
-    → (bit_at load.busy d == 1) ≡ has_set_of (resource.Clock d) t.pending)
-    → IfSome (clock_table.set_clock c) (λ set. load.room ≡ has_room board a (situation_in a t))
-    → clock_reply board (clock_table.view_of board t.base t.clocks load a) c
-    ≡ reply_words board a (situation_in a t) (Ok (Clock c))
-unfolding reply_words
-clock-reply board t a load c few busy room =
-    clock_same.clock_reply-loaded board (clock_table.view_of board t.base t.clocks load a)
-    (clock_view board a (situation_in a t)) c refl
-    (λ e. bit_said (clock_table.enabled_at t.clocks e)) refl refl
-    (below (clock_table.set_clock c) busy) room
-  where
-    below : (o : Option ℕ) → IfSome o (λ set. (d : ℕ) → d < 32
-        → (bit_at load.busy d == 1) ≡ has_set_of (resource.Clock d) t.pending)
-        → IfSome o (λ set. (d : ℕ) → d < length board.clocks
-        → (bit_at load.busy d == 1) ≡ has_set_of (resource.Clock d) t.pending)
-    below None all = all
-    below (Some d) all = λ e small. all e (omega arith)

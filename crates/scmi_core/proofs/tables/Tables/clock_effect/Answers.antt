@@ -5,8 +5,7 @@ use Rattle.scmi_clock.specs.ClockTable.{rate_now, enabled_now}
 use Rattle.scmi_clock.specs.ClockProtocol.{clock_effect}
 use Rattle.scmi_core.specs.Reply.{reply_words}
 use Rattle.scmi_core.specs.Tables.{situation_in}
-use Rattle.scmi_core.proofs.ClockSteps.{effect-success}
-use Rattle.scmi_core.proofs.Situations.{clock-reply}
+use Rattle.scmi_core.proofs.ClockSteps.{clock-reply, effect-success}
 use Rattle.scmi_core.proofs.tables.Tables.clock_effect.Goals as goal
 
 pub returns-in-Some : goal.returns-in-Some

@@ -1,6 +1,5 @@
 use Rattle.std.proofs.Common.{◌∙◌}
-use Rattle.scmi_core.proofs.Situations.{clock-reply}
-use Rattle.scmi_core.proofs.ClockSteps.{clock-stepped}
+use Rattle.scmi_core.proofs.ClockSteps.{clock-reply, clock-stepped}
 use Rattle.scmi_core.proofs.tables.Tables.execute_clock.Goals as goal
 
 pub returns-clause-reply : goal.returns-clause-reply

@@ -1,6 +1,5 @@
 use Rattle.std.proofs.Common.{◌∙◌, arith}
-use Rattle.scmi_core.proofs.Situations.{power-reply}
-use Rattle.scmi_core.proofs.Steps.{power-stepped}
+use Rattle.scmi_core.proofs.PowerSteps.{power-reply, power-stepped}
 use Rattle.scmi_core.proofs.tables.Tables.execute_power.Goals as goal
 
 pub returns-clause-reply : goal.returns-clause-reply

@@ -5,7 +5,7 @@ use Rattle.scmi_power.specs.PowerProtocol.{state_effect}
 use Rattle.scmi_codec.specs.declared.command.Command.TheVariants.{Power}
 use Rattle.scmi_core.specs.Reply.{reply_words}
 use Rattle.scmi_core.specs.Tables.{situation_in}
-use Rattle.scmi_core.proofs.Situations.{power-reply}
+use Rattle.scmi_core.proofs.PowerSteps.{power-reply}
 use Rattle.scmi_core.proofs.Steps.{success-mapped}
 use Rattle.scmi_core.proofs.tables.Tables.power_effect.Goals as goal
 
