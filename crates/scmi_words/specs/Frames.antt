@@ -1,10 +1,7 @@
 -- A message in the words of the table, whose length and header may have been loaded.
-use Rattle.std.specs.Prelude.{◌≡◌, ℕ, [], length}
+use Rattle.std.specs.Prelude.{◌≡◌, []}
 use Rattle.scmi_codec.specs.declared.message.Message.{Message}
-use Rattle.scmi_codec.specs.declared.frame.Frame.{Frame}
 use Rattle.scmi_codec.specs.declared.frame.Frame.TheVariants.{Good}
-use Rattle.scmi_codec.specs.declared.frame.Answer.{Answer}
-use Rattle.scmi_codec.specs.declared.frame.Answer.TheVariants.{Reply}
 use Rattle.scmi_words.specs.declared.phase.Phase.TheVariants.{Idle}
 use Rattle.scmi_words.specs.declared.shared_table.SharedTable.{SharedTable}
 use Rattle.scmi_words.specs.Area.{frame_words, IsValidMessage}
@@ -27,13 +24,3 @@ HasMessage table seat posted = IsSeatAt table seat
     × (HasCallee seat × IsOwing (callee_of seat) × ((callee_of seat).state.draft ≡ []))
     × (frame_area (callee_of seat) ≡ frame_words (Good posted))
     × IsValidMessage posted
-
--- an answer is a reply of this many words
-abbrev pub IsReplyOf : ℕ → Answer → Type 0
-IsReplyOf count (Reply m) = length m.payload.items ≡ count
-IsReplyOf count _ = ⊥
-
--- a frame is a message of this many words
-abbrev pub IsMessageOf : ℕ → Frame → Type 0
-IsMessageOf count (Good m) = length m.payload.items ≡ count
-IsMessageOf count _ = ⊥

@@ -13,7 +13,7 @@ ghost use Rattle.scmi_words.specs.Area.{frame_words, IsValid, IsValidAnswer, IsV
 ghost use Rattle.scmi_words.specs.StatusWord.{status_word, answer_mark};
 ghost use Rattle.scmi_words.specs.View.{HasCaller, HasCallee, CallerBecomes, CalleeBecomes, caller_of, callee_of};
 ghost use Rattle.scmi_words.specs.SharedTable.{IsSeatAt};
-ghost use Rattle.scmi_words.specs.Frames.{HasMessage, HasResponse, IsMessageOf, IsReplyOf};
+ghost use Rattle.scmi_words.specs.Frames.{HasResponse, HasMessage};
 ghost use Rattle.scmi_words.specs.CallerSteps.{caller_drafted, caller_after};
 ghost use Rattle.scmi_words.specs.CalleeSteps.{callee_drafted, callee_after, IsOwing};
 
@@ -79,7 +79,8 @@ fn set_no_reply(answer: &mut Answer, free: u64)
     };
 }
 
-/// Loads the response that the caller collected, into `answer`.
+/// Loads the response that the caller collected, into `answer`. If that is a reply of as many
+/// words, they are written over; no call has to return to it, so it saves no registers.
 fn read_reply(table: &SharedTable, seat: &mut TableSeat, answer: &mut Answer)
     ghost given: { Message }
     requires { HasResponse table.now seat.old given }
@@ -90,33 +91,75 @@ fn read_reply(table: &SharedTable, seat: &mut TableSeat, answer: &mut Answer)
     let length = load_answer_word(table, seat, LENGTH);
     let header = load_answer_word(table, seat, HEADER);
     let count = (length / 4 - 1) as usize;
-    size_reply(answer, count);
-    match answer {
-        Answer::Reply(message) => read_response(table, seat, header, count, message),
-        _ => unreachable!(),
+    if let Answer::Reply(message) = answer {
+        if message.payload.len() == count {
+            return read_response(table, seat, header, count, message);
+        }
     }
+    read_other_response(table, seat, header, count, answer);
 }
 
-/// Makes an answer a reply of this many words, over which others are to be loaded.
-fn size_reply(answer: &mut Answer, count: usize)
-    requires { count ≤ PAYLOAD_WORDS }
-    ensures { IsReplyOf count answer.new }
+/// Loads the payload of the response that the caller collected, into any other answer.
+#[inline(never)]
+fn read_other_response(
+    table: &SharedTable,
+    seat: &mut TableSeat,
+    header: u32,
+    count: usize,
+    answer: &mut Answer,
+)
+    ghost given: { Message }
+    requires given { HasResponse table.now seat.old given }
+    requires header { header ≡ header_word given.header }
+    requires count { count ≡ length given.payload.items }
+    ensures value { answer.new ≡ Reply given }
+    ensures view { CallerBecomes seat.old (caller_after (caller_of seat.old) count) seat.new }
 {
     match answer {
-        Answer::Reply(message) => set_length(&mut message.payload, count),
-        _ => set_new_reply(answer, count),
+        Answer::Reply(message) => read_resized_response(table, seat, header, count, message),
+        _ => read_new_response(table, seat, header, count, answer),
     }
 }
 
-/// As `size_reply`, of an answer that is none. A function clears its locals at its entry, so the
-/// message is not one of the callers.
+/// Loads the payload of the response that the caller collected, into a message of any other
+/// length.
+fn read_resized_response(
+    table: &SharedTable,
+    seat: &mut TableSeat,
+    header: u32,
+    count: usize,
+    message: &mut Message,
+)
+    ghost given: { Message }
+    requires given { HasResponse table.now seat.old given }
+    requires header { header ≡ header_word given.header }
+    requires count { count ≡ length given.payload.items }
+    ensures value { message.new ≡ given }
+    ensures view { CallerBecomes seat.old (caller_after (caller_of seat.old) count) seat.new }
+{
+    set_length(&mut message.payload, count);
+    read_response(table, seat, header, count, message);
+}
+
+/// Loads the payload of the response that the caller collected, into a new message of this header
+/// word. A function clears its locals at its entry, so the message is not one of the callers.
 #[inline(never)]
-fn set_new_reply(answer: &mut Answer, count: usize)
-    requires { count ≤ PAYLOAD_WORDS }
-    ensures { IsReplyOf count answer.new }
+fn read_new_response(
+    table: &SharedTable,
+    seat: &mut TableSeat,
+    header: u32,
+    count: usize,
+    answer: &mut Answer,
+)
+    ghost given: { Message }
+    requires given { HasResponse table.now seat.old given }
+    requires header { header ≡ header_word given.header }
+    requires count { count ≡ length given.payload.items }
+    ensures value { answer.new ≡ Reply given }
+    ensures view { CallerBecomes seat.old (caller_after (caller_of seat.old) count) seat.new }
 {
     let mut message = Message::default();
-    set_length(&mut message.payload, count);
+    read_resized_response(table, seat, header, count, &mut message);
     *answer = Answer::Reply(message);
 }
 
@@ -162,32 +205,75 @@ pub fn read_frame(table: &SharedTable, seat: &mut TableSeat, frame: &mut Frame)
         return;
     }
     let count = (length / 4 - 1) as usize;
-    size_message(frame, count);
-    match frame {
-        Frame::Good(message) => read_message(table, seat, header, count, message),
-        _ => unreachable!(),
+    if let Frame::Good(message) = frame {
+        if message.payload.len() == count {
+            return read_message(table, seat, header, count, message);
+        }
     }
+    read_other_message(table, seat, header, count, frame);
 }
 
-/// Makes a frame a message of this many words, over which others are to be loaded.
-fn size_message(frame: &mut Frame, count: usize)
-    requires { count ≤ PAYLOAD_WORDS }
-    ensures { IsMessageOf count frame.new }
+/// Loads the payload of the frame that the callee took, into any other frame.
+#[inline(never)]
+fn read_other_message(
+    table: &SharedTable,
+    seat: &mut TableSeat,
+    header: u32,
+    count: usize,
+    frame: &mut Frame,
+)
+    ghost posted: { Message }
+    requires posted { HasMessage table.now seat.old posted }
+    requires header { header ≡ header_word posted.header }
+    requires count { count ≡ length posted.payload.items }
+    ensures value { frame.new ≡ Good posted }
+    ensures view { CalleeBecomes seat.old (callee_after (callee_of seat.old) count) seat.new }
 {
     match frame {
-        Frame::Good(message) => set_length(&mut message.payload, count),
-        _ => set_new_message(frame, count),
+        Frame::Good(message) => read_resized_message(table, seat, header, count, message),
+        _ => read_new_message(table, seat, header, count, frame),
     }
 }
 
-/// As `size_message`, of a frame that is none; the message is not a local of the callers.
+/// Loads the payload of the frame that the callee took, into a message of any other
+/// length.
+fn read_resized_message(
+    table: &SharedTable,
+    seat: &mut TableSeat,
+    header: u32,
+    count: usize,
+    message: &mut Message,
+)
+    ghost posted: { Message }
+    requires posted { HasMessage table.now seat.old posted }
+    requires header { header ≡ header_word posted.header }
+    requires count { count ≡ length posted.payload.items }
+    ensures value { message.new ≡ posted }
+    ensures view { CalleeBecomes seat.old (callee_after (callee_of seat.old) count) seat.new }
+{
+    set_length(&mut message.payload, count);
+    read_message(table, seat, header, count, message);
+}
+
+/// Loads the payload of the frame that the callee took, into a new message of this header word,
+/// which is not a local of the callers.
 #[inline(never)]
-fn set_new_message(frame: &mut Frame, count: usize)
-    requires { count ≤ PAYLOAD_WORDS }
-    ensures { IsMessageOf count frame.new }
+fn read_new_message(
+    table: &SharedTable,
+    seat: &mut TableSeat,
+    header: u32,
+    count: usize,
+    frame: &mut Frame,
+)
+    ghost posted: { Message }
+    requires posted { HasMessage table.now seat.old posted }
+    requires header { header ≡ header_word posted.header }
+    requires count { count ≡ length posted.payload.items }
+    ensures value { frame.new ≡ Good posted }
+    ensures view { CalleeBecomes seat.old (callee_after (callee_of seat.old) count) seat.new }
 {
     let mut message = Message::default();
-    set_length(&mut message.payload, count);
+    read_resized_message(table, seat, header, count, &mut message);
     *frame = Frame::Good(message);
 }
 
@@ -214,14 +300,12 @@ fn read_message(
     }
 }
 
-/// Makes a payload one of this many words. One that is so already stays: that saves a call.
+/// Makes a payload one of this many words, over which others are to be loaded.
 fn set_length(payload: &mut Payload, count: usize)
     requires { count ≤ PAYLOAD_WORDS }
     ensures { length payload.new.items ≡ count }
 {
-    if payload.len() != count {
-        set_payload(payload, &[0; PAYLOAD_WORDS][..count]);
-    }
+    set_payload(payload, &[0; PAYLOAD_WORDS][..count]);
 }
 
 /// Stores a callee's response.

@@ -98,20 +98,34 @@ read_message-requires g c =
       (head g at well, (count g at well, search rules)),
     )
 
-pub size_message-requires : goal.size_message-requires
-size_message-requires g c =
-    let at = (goal.at.size_message-requires g c).After-is_well_formed in
+pub read_other_message-requires : goal.read_other_message-requires
+read_other_message-requires g c =
+    let at = (goal.at.read_other_message-requires g c).After-is_well_formed in
+    let well : is_well_formed c.load_frame_word-length.result ≡ true = search rules in (
+      (search rules, (search rules, search rules, search rules), read g at well, few g at well),
+      (head g at well, count g at well),
+    )
+
+pub returns-then-len-count-clause-value : goal.returns-then-len-count-clause-value
+returns-then-len-count-clause-value g c =
+    let at = (goal.at.returns-then-len-count-clause-value g c).After-is_well_formed in
     let well : is_well_formed c.load_frame_word-length.result ≡ true = search rules in
-    let few = well_formed_few c.load_frame_word-length.result well in omega arith
+    ap (λ m. Good m) c.read_message.ensures.value ∙ sym (good g at well)
+
+pub returns-then-len-count-clause-view : goal.returns-then-len-count-clause-view
+returns-then-len-count-clause-view g c =
+    let at = (goal.at.returns-then-len-count-clause-view g c).After-is_well_formed in
+    let well : is_well_formed c.load_frame_word-length.result ≡ true = search rules in
+    steps g at well _ c.read_message.ensures.view
 
 pub returns-clause-value : goal.returns-clause-value
 returns-clause-value g c =
     let at = (goal.at.returns-clause-value g c).After-is_well_formed in
     let well : is_well_formed c.load_frame_word-length.result ≡ true = search rules in
-    ap (λ m. Good m) c.read_message.ensures.value ∙ sym (good g at well)
+    c.read_other_message.ensures.value ∙ sym (good g at well)
 
 pub returns-clause-view : goal.returns-clause-view
 returns-clause-view g c =
     let at = (goal.at.returns-clause-view g c).After-is_well_formed in
     let well : is_well_formed c.load_frame_word-length.result ≡ true = search rules in
-    steps g at well _ c.read_message.ensures.view
+    steps g at well _ c.read_other_message.ensures.view

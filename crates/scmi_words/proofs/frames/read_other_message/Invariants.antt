@@ -1,0 +1,7 @@
+use Rattle.scmi_words.proofs.frames.read_other_message.Given as goal
+
+abbrev pub ghost-read_resized_message : goal.ghost-read_resized_message
+ghost-read_resized_message g a = g.posted
+
+abbrev pub ghost-read_new_message : goal.ghost-read_new_message
+ghost-read_new_message g a = g.posted
