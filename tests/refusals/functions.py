@@ -27,7 +27,7 @@ pub {name}_spec : {{M : Type 1}} → statement M
 # A lemma: its statement, what it opens, and its clauses, with the lines of each that are further in. Those of a module
 # with parameters are two spaces further in.
 LEMMA = (
-    r"^{0}(?P<statement>(?:pub )?(?P<name>[^\s:=({{]+)(?: \{{[^}}\n]*\}})? :(?: .*)?\n(?:{0}[ \t]+(?!unfolding ).*\n)*)"
+    r"^{0}(?P<statement>(?:pub )?(?P<name>[^\s:=({{]+)(?: \{{[^}}\n]*\}})? :(?: .*)?\n(?:{0}[ \t](?![ \t]*unfolding ).*\n)*)"
     r"(?:{0} *unfolding .*\n)?"
     r"(?:{0}(?P=name)(?![^\s=]).*\n(?:{0}[ \t}})\]].*\n|\n(?={0}[ \t]))*)+"
 )
