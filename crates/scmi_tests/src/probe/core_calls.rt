@@ -3,8 +3,8 @@ ghost use Rattle.std.specs.Prelude.{◌<◌, ◌≤◌, length};
 ghost use Rattle.scmi_codec.specs.declared.header.TheConstants.{TOKENS};
 ghost use Rattle.scmi_codec.specs.declared.payload.TheConstants.{PAYLOAD_WORDS};
 
-use crate::board::new_plan;
-use crate::lines::Lines;
+use crate::probe::board::new_plan;
+use crate::probe::lines::Lines;
 use scmi_codec::{Frame, Header, Message, PAYLOAD_WORDS, POWER_PROTOCOL, payload_of};
 use scmi_core::Core;
 use std::alloc::Global;

@@ -1,4 +1,4 @@
-use Rattle.scmi_probe.proofs.session.Session.serve.Goals as goal
+use Rattle.scmi_tests.proofs.probe.session.Session.serve.Goals as goal
 
 pub serve-requires-after_bounds : goal.serve-requires-after_bounds
 serve-requires-after_bounds g c κs within =

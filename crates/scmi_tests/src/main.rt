@@ -1,4 +1,5 @@
-//! Tests of the public surface, and of what no session shows, by public items alone.
+//! Tests of the public surface, and of what no session shows, by public items alone; and as a
+//! program what such tests run from outside (`probe`).
 //!
 //! `surface` writes each public name as a caller does. These stand beside what a platform without
 //! hardware and restarts has, each with its reason in docs/DECISIONS.md:
@@ -30,7 +31,14 @@ mod meeting;
 mod messages;
 #[cfg(test)]
 mod pair;
+mod probe;
 #[cfg(test)]
 mod race;
 #[cfg(test)]
 mod surface;
+
+use std::process::ExitCode;
+
+fn main(rt: HostRuntime) -> ExitCode {
+    probe::run(&rt)
+}

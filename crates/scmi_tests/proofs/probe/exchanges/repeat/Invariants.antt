@@ -1,5 +1,5 @@
 use Rattle.std.proofs.Common.{◌≤◌}
-use Rattle.scmi_probe.proofs.exchanges.repeat.Given as goal
+use Rattle.scmi_tests.proofs.probe.exchanges.repeat.Given as goal
 
 abbrev pub invariant-exchanges : goal.invariant-exchanges
 invariant-exchanges g l = 1 ≤ l.session

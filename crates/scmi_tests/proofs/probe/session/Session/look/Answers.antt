@@ -1,6 +1,6 @@
 use Rattle.std.proofs.Common.{refl, arith}
 use Rattle.scmi_ends.proofs.Together.{of_link, stays}
-use Rattle.scmi_probe.proofs.session.Session.look.Goals as goal
+use Rattle.scmi_tests.proofs.probe.session.Session.look.Goals as goal
 
 pub collect_into-requires-after_bounds : goal.collect_into-requires-after_bounds
 collect_into-requires-after_bounds g c κs within = of_link g.C.Channel.identity

@@ -1,6 +1,6 @@
 //! The board that all calls are made on, and its plan.
 
-use crate::lines::Lines;
+use crate::probe::lines::Lines;
 use scmi_board::{TextError, read_board};
 use scmi_plan::{Plan, PlanError, RawPlan};
 use std::alloc::Global;

@@ -1,8 +1,8 @@
 //! One command of a platform again and again, for `tools/bench` to count what it takes.
 
-use crate::board::new_plan;
-use crate::lines::Lines;
-use crate::registers::Registers;
+use crate::probe::board::new_plan;
+use crate::probe::lines::Lines;
+use crate::probe::registers::Registers;
 use scmi_codec::{Frame, Header, Message, Payload};
 use scmi_core::{Core, Hardware, NoHardware, Platform};
 use scmi_plan::Plan;

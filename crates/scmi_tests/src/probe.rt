@@ -4,7 +4,6 @@
 //! With the arguments `exchange words|rings COUNT WORDS` it makes one exchange again and again, in
 //! place of the calls; with `command platform|core COUNT PROTOCOL MESSAGE WORD ..` a platform
 //! executes one command, and with `platform+none`, `platform+driver` and their kin beside hardware.
-#![tactic(auto)]
 
 mod board;
 mod channels;
@@ -15,11 +14,11 @@ mod lines;
 mod registers;
 mod session;
 
-use crate::channels::{make_channel, make_command};
-use crate::commands::Commands;
-use crate::core_calls::call_core;
-use crate::exchanges::Exchanges;
-use crate::lines::Lines;
+use crate::probe::channels::{make_channel, make_command};
+use crate::probe::commands::Commands;
+use crate::probe::core_calls::call_core;
+use crate::probe::exchanges::Exchanges;
+use crate::probe::lines::Lines;
 use scmi_link::RingChannel;
 use scmi_words::WordChannel;
 use std::alloc::Global;
@@ -27,11 +26,12 @@ use std::env;
 use std::io::{self, Write};
 use std::process::ExitCode;
 
-fn main(rt: HostRuntime) -> ExitCode {
+/// Does what the arguments ask for. The status is 1 if a call failed.
+pub(crate) fn run(rt: &HostRuntime) -> ExitCode {
     let alloc = rt.alloc();
-    let mut writer = io::writer(&rt);
+    let mut writer = io::writer(rt);
     let mut lines = Lines::new(&mut writer);
-    let words = words(&rt, alloc);
+    let words = words(rt, alloc);
     if let Some(exchanges) = Exchanges::asked_for(&words) {
         exchanges.make(alloc, &mut lines);
     } else if let Some(commands) = Commands::asked_for(&words) {

@@ -1,9 +1,9 @@
 //! Channels of each kind, and a command over them.
 ghost use Rattle.std.specs.Prelude.{◌≡◌, ◌≤◌, [], length, IfSome};
 
-use crate::board::new_plan;
-use crate::lines::Lines;
-use crate::session::Session;
+use crate::probe::board::new_plan;
+use crate::probe::lines::Lines;
+use crate::probe::session::Session;
 use scmi_codec::{Answer, Payload};
 use scmi_core::Core;
 use scmi_ends::{ServeError, Served};

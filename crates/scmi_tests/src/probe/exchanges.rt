@@ -1,7 +1,7 @@
 //! One command again and again, for `tools/bench` to count what an exchange takes.
 
-use crate::channels::open;
-use crate::lines::Lines;
+use crate::probe::channels::open;
+use crate::probe::lines::Lines;
 use scmi_codec::{Answer, PAYLOAD_WORDS, Payload, payload_of};
 use scmi_link::{Channel, RingChannel};
 use scmi_words::WordChannel;
