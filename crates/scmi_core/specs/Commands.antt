@@ -10,12 +10,14 @@ use Rattle.scmi_plan.specs.declared.effect.Effect.TheVariants as effect
 use Rattle.scmi_plan.specs.declared.scope.Scope.{Scope}
 use Rattle.scmi_base.specs.BaseReply.{base_reply}
 use Rattle.scmi_base.specs.Permission.{permission, reset_by}
-use Rattle.scmi_power.specs.PowerProtocol.{power_protocol}
-use Rattle.scmi_power.specs.PowerReply.{PowerView}
-use Rattle.scmi_power.specs.PowerTable.{set_later}
-use Rattle.scmi_clock.specs.ClockProtocol.{clock_protocol}
-use Rattle.scmi_clock.specs.ClockReply.{ClockView}
-use Rattle.scmi_clock.specs.ClockTable.{rate_later}
+use Rattle.scmi_power.specs.PowerProtocol.{state_effect}
+use Rattle.scmi_power.specs.PowerReply.{PowerView, power_reply}
+use Rattle.scmi_power.specs.PowerTable.{notification, set_later, set_now}
+use Rattle.scmi_power.specs.PowerTable as power_table
+use Rattle.scmi_clock.specs.ClockProtocol.{clock_effect}
+use Rattle.scmi_clock.specs.ClockReply.{ClockView, clock_reply}
+use Rattle.scmi_clock.specs.ClockTable.{enabled_now, rate_later, rate_now}
+use Rattle.scmi_clock.specs.ClockTable as clock_table
 use Rattle.scmi_core.specs.declared.pending_set.Setting.{Setting}
 use Rattle.scmi_core.specs.declared.pending_set.Setting.TheVariants as setting
 
@@ -27,14 +29,14 @@ pub record Views : Type 0 where
 -- the payload of the reply to a command of agent a
 abbrev pub reply_by : Board → ℕ → Views → codec.Command → List ℕ
 reply_by board a v (Base c) = base_reply board a c
-reply_by board a v (Power c) = power_protocol.reply board v.power c
-reply_by board a v (Clock c) = clock_protocol.reply board v.clock c
+reply_by board a v (Power c) = power_reply board v.power c
+reply_by board a v (Clock c) = clock_reply board v.clock c
 
 -- the change that a successful command makes at once
 abbrev pub now_of : Board → codec.Command → Option Effect
 now_of board (Base c) = None
-now_of board (Power c) = power_protocol.now board c
-now_of board (Clock c) = clock_protocol.now board c
+now_of board (Power c) = option_map state_effect (set_now c)
+now_of board (Clock c) = clock_effect (rate_now board c) (enabled_now c)
 
 -- what a pending set changes when it completes
 abbrev pub setting_effect : Setting → Effect
@@ -68,8 +70,8 @@ later_effect_of board c = option_map (λ l. setting_effect l.setting) (later_of 
 -- what it says about the notifications of agent a about domain d
 abbrev pub request_of : (a d caller : ℕ) → codec.Command → Option Bool
 request_of a d caller (Base c) = None
-request_of a d caller (Power c) = power_protocol.request a d caller c
-request_of a d caller (Clock c) = clock_protocol.request a d caller c
+request_of a d caller (Power c) = notification a d caller c
+request_of a d caller (Clock c) = None
 
 -- the agent that it resets
 abbrev pub reset_of : codec.Command → Option ℕ
@@ -84,8 +86,8 @@ permission_in board a d scope _ = None
 -- whether a command changes no domain or clock, and asks for no notifications
 abbrev pub changes_nothing : codec.Command → Bool
 changes_nothing (Base c) = true
-changes_nothing (Power c) = power_protocol.only_reads c
-changes_nothing (Clock c) = clock_protocol.only_reads c
+changes_nothing (Power c) = power_table.only_reads c
+changes_nothing (Clock c) = clock_table.only_reads c
 
 -- whether it sets no permission and resets no agent
 abbrev pub grants_nothing : codec.Command → Bool
